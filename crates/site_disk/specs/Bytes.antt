@@ -1,0 +1,24 @@
+-- Bytes by their places.
+use Rattle.std.specs.Prelude.{◌≡◌, ◌⊎◌, ℕ, ◌+◌, ◌≤◌, max, List, ◌++◌, length, take, drop}
+
+-- what stands in a range: n bytes from a place on, fewer where the bytes end
+abbrev pub extent : ℕ → ℕ → List ℕ → List ℕ
+extent at n bytes = take n (drop at bytes)
+
+-- the bytes after a write at a place at most their length
+abbrev pub written : ℕ → List ℕ → List ℕ → List ℕ
+written at piece bytes = take at bytes ++ piece ++ drop (at + length piece) bytes
+
+-- two ranges have no place in common
+abbrev pub Apart : ℕ → ℕ → ℕ → ℕ → Type 0
+Apart at n from len = (from + len ≤ at) ⊎ (at + n ≤ from)
+
+-- what a write of n bytes may leave that a crash cuts short: any bytes in its range, any length up to its end, the same elsewhere
+pub record Torn (at n : ℕ) (old new : List ℕ) : Type 0 where
+  pub elsewhere : (from len : ℕ) → Apart at n from len → extent from len new ≡ extent from len old
+  pub no_shorter : length old ≤ length new
+  pub no_longer : length new ≤ max (length old) (at + n)
+
+-- nothing changes
+abbrev pub Same : List ℕ → List ℕ → Type 0
+Same old new = new ≡ old
