@@ -1,0 +1,210 @@
+-- The spelling of a descriptor, and its fields at their offsets.
+use Rattle.std.proofs.Common.{◌≡◌, ℕ, ◌+◌, ◌-◌, ◌<◌, ◌≤◌, List, [], ◌∷◌, ◌++◌, length, take, drop, replicate, All, Option, Some, refl, sym, ap, ◌∙◌, arith}
+use Rattle.std.proofs.lemmas.List.{take_all, take-take, drop-take, take_at, drop_at, length-append, length-replicate, length-take-le, length-drop}
+use Rattle.std.proofs.lemmas.List.Elements.{All-same, All-replicate}
+use Rattle.std.proofs.Math.Seq.{take-add}
+use Rattle.std.specs.Int.{to_be_bytes, w64}
+use Rattle.bsa_descriptor.specs.declared.descriptor.Descriptor.{Descriptor}
+use Rattle.bsa_descriptor.specs.declared.groups.Names.{Names}
+use Rattle.bsa_descriptor.specs.declared.groups.Numbers.{Numbers}
+use Rattle.bsa_descriptor.specs.declared.groups.Kinds.{Kinds}
+use Rattle.bsa_descriptor.specs.declared.groups.Notes.{Notes}
+use Rattle.bsa_descriptor.specs.Kinds.{copy_type_code, object_type_code, status_code}
+use Rattle.bsa_descriptor.specs.Text.{IsText, padded, field}
+use Rattle.bsa_descriptor.specs.Groups.{TextAt, NumberAt, NamesAt, NumbersAt, KindsAt, NotesAt}
+use Rattle.bsa_descriptor.specs.Descriptor.{IsDescriptor, spelling}
+use Rattle.bsa_descriptor.proofs.Padding.{zeros_are_replicated}
+
+-- the descriptor of these groups
+abbrev pub joined : Names → Numbers → Kinds → Notes → Descriptor
+joined names numbers kinds notes = record {
+  bsa_owner = names.bsa_owner;
+  app_owner = names.app_owner;
+  space = names.space;
+  path = names.path;
+  create_time = numbers.create_time;
+  copy = numbers.copy;
+  restore_order = numbers.restore_order;
+  estimated_size = numbers.estimated_size;
+  copy_type = kinds.copy_type;
+  object_type = kinds.object_type;
+  status = kinds.status;
+  resource = notes.resource;
+  description = notes.description;
+  info = notes.info;
+}
+
+-- the groups of a descriptor
+abbrev pub names_in : Descriptor → Names
+names_in d = record { bsa_owner = d.bsa_owner; app_owner = d.app_owner; space = d.space; path = d.path }
+
+abbrev pub numbers_in : Descriptor → Numbers
+numbers_in d = record { create_time = d.create_time; copy = d.copy; restore_order = d.restore_order; estimated_size = d.estimated_size }
+
+abbrev pub kinds_in : Descriptor → Kinds
+kinds_in d = record { copy_type = d.copy_type; object_type = d.object_type; status = d.status }
+
+abbrev pub notes_in : Descriptor → Notes
+notes_in d = record { resource = d.resource; description = d.description; info = d.info }
+
+pub IsDescriptor-joined : (bytes : List ℕ) (names : Names) (numbers : Numbers) (kinds : Kinds) (notes : Notes)
+  → NamesAt bytes names → NumbersAt bytes numbers → NotesAt bytes notes → IsDescriptor (joined names numbers kinds notes)
+IsDescriptor-joined bytes names numbers kinds notes first second last = record {
+  bsa_owner = first.bsa_owner.is_text;
+  app_owner = first.app_owner.is_text;
+  space = first.space.is_text;
+  path = first.path.is_text;
+  create_time = second.create_time.fits;
+  copy = second.copy.fits;
+  restore_order = second.restore_order.fits;
+  estimated_size = second.estimated_size.fits;
+  resource = last.resource.is_text;
+  description = last.description.is_text;
+  info = last.info.is_text;
+}
+
+-- zeros to the end are the last field
+pub zeros_at : (bytes : List ℕ) → length bytes ≡ 2624 → All (λ byte. byte ≡ 0) (drop 2598 bytes) → field 2598 26 bytes ≡ replicate 26 0
+zeros_at bytes fills zeros =
+    let rest : drop 2598 bytes ≡ replicate 26 0 = zeros_are_replicated (drop 2598 bytes) zeros ∙ ap (λ (n : ℕ). replicate {A = ℕ} n 0) (length-drop 2598 bytes ∙ ap (λ (n : ℕ). n - 2598) fills) in
+    ap (take 26) rest
+
+-- bytes whose fields stand at their offsets are the spelling of the descriptor that these make
+pub spelling-joined : (bytes : List ℕ) (names : Names) (numbers : Numbers) (kinds : Kinds) (notes : Notes) → length bytes ≡ 2624
+  → NamesAt bytes names → NumbersAt bytes numbers → KindsAt bytes kinds → NotesAt bytes notes → All (λ byte. byte ≡ 0) (drop 2598 bytes)
+  → bytes ≡ spelling (joined names numbers kinds notes)
+unfolding spelling
+spelling-joined bytes names numbers kinds notes fills first second third last zeros =
+    let whole : take 2624 bytes ≡ bytes = take_all 2624 bytes (omega arith) in
+    rw (← whole, take-add 2598 26 bytes, zeros_at bytes fills zeros,
+      take-add 2342 256 bytes, last.info.padded_so, take-add 2242 100 bytes, last.description.padded_so, take-add 2211 31 bytes, last.resource.padded_so,
+      take-add 2210 1 bytes, third.status, take-add 2209 1 bytes, third.object_type, take-add 2208 1 bytes, third.copy_type,
+      take-add 2200 8 bytes, second.estimated_size.written_so, take-add 2192 8 bytes, second.restore_order.written_so,
+      take-add 2184 8 bytes, second.copy.written_so, take-add 2176 8 bytes, second.create_time.written_so,
+      take-add 1152 1024 bytes, first.path.padded_so, take-add 128 1024 bytes, first.space.padded_so,
+      take-add 64 64 bytes, first.app_owner.padded_so, first.bsa_owner.padded_so) refl
+
+-- the last field of a list is what stands behind the front
+pub last_field : (at width : ℕ) (bytes front text : List ℕ) → at + width ≤ length bytes → length text ≡ width
+  → take (at + width) bytes ≡ front ++ text → (take at bytes ≡ front) × (field at width bytes ≡ text)
+last_field at width bytes front text within wide split =
+    let at_front : length front ≡ at = omega (arith, length-take-le (at + width) bytes within, ap length split, length-append front text) in
+    (sym (take-take at (at + width) bytes (omega arith)) ∙ ap (take at) split ∙ take_at front text at at_front,
+      sym (drop-take at width bytes) ∙ ap (drop at) split ∙ drop_at front text at at_front)
+
+pub length-padded : (width : ℕ) (text : List ℕ) → IsText width text → length (padded width text) ≡ width
+length-padded width text is_text =
+    let shorter : length text < width = is_text.shorter in
+    omega (arith, length-append text (replicate {A = ℕ} (width - length text) 0), length-replicate {A = ℕ} (width - length text) 0)
+
+-- what stands before each field
+abbrev through_bsa_owner : Descriptor → List ℕ
+through_bsa_owner d = padded 64 d.bsa_owner
+
+abbrev through_app_owner : Descriptor → List ℕ
+through_app_owner d = through_bsa_owner d ++ padded 64 d.app_owner
+
+abbrev through_space : Descriptor → List ℕ
+through_space d = through_app_owner d ++ padded 1024 d.space
+
+abbrev through_path : Descriptor → List ℕ
+through_path d = through_space d ++ padded 1024 d.path
+
+abbrev through_create_time : Descriptor → List ℕ
+through_create_time d = through_path d ++ to_be_bytes w64 d.create_time
+
+abbrev through_copy : Descriptor → List ℕ
+through_copy d = through_create_time d ++ to_be_bytes w64 d.copy
+
+abbrev through_restore_order : Descriptor → List ℕ
+through_restore_order d = through_copy d ++ to_be_bytes w64 d.restore_order
+
+abbrev through_estimated_size : Descriptor → List ℕ
+through_estimated_size d = through_restore_order d ++ to_be_bytes w64 d.estimated_size
+
+abbrev through_copy_type : Descriptor → List ℕ
+through_copy_type d = through_estimated_size d ++ (copy_type_code d.copy_type ∷ [])
+
+abbrev through_object_type : Descriptor → List ℕ
+through_object_type d = through_copy_type d ++ (object_type_code d.object_type ∷ [])
+
+abbrev through_status : Descriptor → List ℕ
+through_status d = through_object_type d ++ (status_code d.status ∷ [])
+
+abbrev through_resource : Descriptor → List ℕ
+through_resource d = through_status d ++ padded 31 d.resource
+
+abbrev through_description : Descriptor → List ℕ
+through_description d = through_resource d ++ padded 100 d.description
+
+abbrev through_info : Descriptor → List ℕ
+through_info d = through_description d ++ padded 256 d.info
+
+-- the fields of a descriptor stand at their offsets
+pub record FieldsAt (bytes : List ℕ) (d : Descriptor) : Type 0 where
+  pub names : NamesAt bytes (names_in d)
+  pub numbers : NumbersAt bytes (numbers_in d)
+  pub kinds : KindsAt bytes (kinds_in d)
+  pub notes : NotesAt bytes (notes_in d)
+  pub zeros : All (λ byte. byte ≡ 0) (drop 2598 bytes)
+
+-- the last field of zeros has nothing else behind its offset
+pub only_zeros : (bytes : List ℕ) → length bytes ≡ 2624 → field 2598 26 bytes ≡ replicate 26 0 → All (λ byte. byte ≡ 0) (drop 2598 bytes)
+only_zeros bytes fills zeros =
+    let whole : field 2598 26 bytes ≡ drop 2598 bytes = take_all 26 (drop 2598 bytes) (omega (arith, length-drop 2598 bytes)) in
+    All-same (λ byte. byte ≡ 0) (drop 2598 bytes) (replicate 26 0) (sym whole ∙ zeros) (All-replicate (λ byte. byte ≡ 0) 26 0 refl)
+
+-- the spelling of a descriptor has its fields at their offsets
+pub FieldsAt-spelling : (bytes : List ℕ) (d : Descriptor) → length bytes ≡ 2624 → IsDescriptor d → bytes ≡ spelling d → FieldsAt bytes d
+unfolding spelling
+FieldsAt-spelling bytes d fills fits e =
+    let zeros = last_field 2598 26 bytes (through_info d) (replicate 26 0) (omega arith) refl (take_all 2624 bytes (omega arith) ∙ e) in
+    let info = last_field 2342 256 bytes (through_description d) (padded 256 d.info) (omega arith) (length-padded 256 d.info fits.info) zeros.0 in
+    let description = last_field 2242 100 bytes (through_resource d) (padded 100 d.description) (omega arith) (length-padded 100 d.description fits.description) info.0 in
+    let resource = last_field 2211 31 bytes (through_status d) (padded 31 d.resource) (omega arith) (length-padded 31 d.resource fits.resource) description.0 in
+    let status = last_field 2210 1 bytes (through_object_type d) (status_code d.status ∷ []) (omega arith) refl resource.0 in
+    let object_type = last_field 2209 1 bytes (through_copy_type d) (object_type_code d.object_type ∷ []) (omega arith) refl status.0 in
+    let copy_type = last_field 2208 1 bytes (through_estimated_size d) (copy_type_code d.copy_type ∷ []) (omega arith) refl object_type.0 in
+    let estimated_size = last_field 2200 8 bytes (through_restore_order d) (to_be_bytes w64 d.estimated_size) (omega arith) refl copy_type.0 in
+    let restore_order = last_field 2192 8 bytes (through_copy d) (to_be_bytes w64 d.restore_order) (omega arith) refl estimated_size.0 in
+    let copy = last_field 2184 8 bytes (through_create_time d) (to_be_bytes w64 d.copy) (omega arith) refl restore_order.0 in
+    let create_time = last_field 2176 8 bytes (through_path d) (to_be_bytes w64 d.create_time) (omega arith) refl copy.0 in
+    let path = last_field 1152 1024 bytes (through_space d) (padded 1024 d.path) (omega arith) (length-padded 1024 d.path fits.path) create_time.0 in
+    let space = last_field 128 1024 bytes (through_app_owner d) (padded 1024 d.space) (omega arith) (length-padded 1024 d.space fits.space) path.0 in
+    let app_owner = last_field 64 64 bytes (through_bsa_owner d) (padded 64 d.app_owner) (omega arith) (length-padded 64 d.app_owner fits.app_owner) space.0 in
+    let bsa_owner = last_field 0 64 bytes [] (padded 64 d.bsa_owner) (omega arith) (length-padded 64 d.bsa_owner fits.bsa_owner) app_owner.0 in
+    record {
+      names = record {
+        bsa_owner = record { is_text = fits.bsa_owner; padded_so = bsa_owner.1 };
+        app_owner = record { is_text = fits.app_owner; padded_so = app_owner.1 };
+        space = record { is_text = fits.space; padded_so = space.1 };
+        path = record { is_text = fits.path; padded_so = path.1 };
+      };
+      numbers = record {
+        create_time = record { fits = fits.create_time; written_so = create_time.1 };
+        copy = record { fits = fits.copy; written_so = copy.1 };
+        restore_order = record { fits = fits.restore_order; written_so = restore_order.1 };
+        estimated_size = record { fits = fits.estimated_size; written_so = estimated_size.1 };
+      };
+      kinds = record {
+        copy_type = copy_type.1;
+        object_type = object_type.1;
+        status = status.1;
+      };
+      notes = record {
+        resource = record { is_text = fits.resource; padded_so = resource.1 };
+        description = record { is_text = fits.description; padded_so = description.1 };
+        info = record { is_text = fits.info; padded_so = info.1 };
+      };
+      zeros = only_zeros bytes fills zeros.1;
+    }
+
+-- a descriptor is made of its groups
+pub Some-joined : (names : Names) (numbers : Numbers) (kinds : Kinds) (notes : Notes) (d : Descriptor)
+  → Some names ≡ Some (names_in d) → numbers ≡ numbers_in d → Some kinds ≡ Some (kinds_in d) → Some notes ≡ Some (notes_in d)
+  → Some (joined names numbers kinds notes) ≡ Some d
+Some-joined names numbers kinds notes d first second third last =
+    let a : names ≡ names_in d = cc in
+    let b : kinds ≡ kinds_in d = cc in
+    let f : notes ≡ notes_in d = cc in
+    rw (a, second, b, f) refl

@@ -1,0 +1,4 @@
+pub mod Text
+pub mod Kinds
+pub mod Descriptor
+pub mod Groups
