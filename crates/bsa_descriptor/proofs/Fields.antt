@@ -1,19 +1,26 @@
 -- The spelling of a descriptor, and its fields at their offsets.
-use Rattle.std.proofs.Common.{◌≡◌, ℕ, ◌+◌, ◌-◌, ◌<◌, ◌≤◌, List, [], ◌∷◌, ◌++◌, length, take, drop, replicate, All, Option, Some, refl, sym, ap, ◌∙◌, arith}
+use Rattle.std.proofs.Common.{◌≡◌, ℕ, ◌+◌, ◌-◌, ◌<◌, ◌≤◌, List, [], ◌∷◌, ◌++◌, length, take, drop, replicate, All, Some, refl, sym, ap, ◌∙◌, arith}
 use Rattle.std.proofs.lemmas.List.{take_all, take-take, drop-take, take_at, drop_at, length-append, length-replicate, length-take-le, length-drop}
 use Rattle.std.proofs.lemmas.List.Elements.{All-same, All-replicate}
+use Rattle.std.proofs.lemmas.Nat.{from_be_bytes-to_be_bytes_8}
 use Rattle.std.proofs.Math.Seq.{take-add}
-use Rattle.std.specs.Int.{to_be_bytes, w64}
+use Rattle.std.specs.Int.{to_be_bytes, from_be_bytes, w64}
 use Rattle.bsa_descriptor.specs.declared.descriptor.Descriptor.{Descriptor}
 use Rattle.bsa_descriptor.specs.declared.groups.Names.{Names}
 use Rattle.bsa_descriptor.specs.declared.groups.Numbers.{Numbers}
 use Rattle.bsa_descriptor.specs.declared.groups.Kinds.{Kinds}
 use Rattle.bsa_descriptor.specs.declared.groups.Notes.{Notes}
+use Rattle.bsa_descriptor.specs.declared.kinds.CopyType.{CopyType}
+use Rattle.bsa_descriptor.specs.declared.kinds.CopyType.TheVariants as copy_type
+use Rattle.bsa_descriptor.specs.declared.kinds.ObjectType.{ObjectType}
+use Rattle.bsa_descriptor.specs.declared.kinds.ObjectType.TheVariants as object_type
+use Rattle.bsa_descriptor.specs.declared.kinds.ObjectStatus.{ObjectStatus}
+use Rattle.bsa_descriptor.specs.declared.kinds.ObjectStatus.TheVariants as status
 use Rattle.bsa_descriptor.specs.Kinds.{copy_type_code, object_type_code, status_code}
 use Rattle.bsa_descriptor.specs.Text.{IsText, padded, field}
 use Rattle.bsa_descriptor.specs.Groups.{TextAt, NumberAt, NamesAt, NumbersAt, KindsAt, NotesAt}
 use Rattle.bsa_descriptor.specs.Descriptor.{IsDescriptor, spelling}
-use Rattle.bsa_descriptor.proofs.Padding.{zeros_are_replicated}
+use Rattle.bsa_descriptor.proofs.Padding.{zeros_are_replicated, padded_once}
 
 -- the descriptor of these groups
 abbrev pub joined : Names → Numbers → Kinds → Notes → Descriptor
@@ -48,7 +55,7 @@ abbrev pub notes_in : Descriptor → Notes
 notes_in d = record { resource = d.resource; description = d.description; info = d.info }
 
 pub IsDescriptor-joined : (bytes : List ℕ) (names : Names) (numbers : Numbers) (kinds : Kinds) (notes : Notes)
-  → NamesAt bytes names → NumbersAt bytes numbers → NotesAt bytes notes → IsDescriptor (joined names numbers kinds notes)
+    → NamesAt bytes names → NumbersAt bytes numbers → NotesAt bytes notes → IsDescriptor (joined names numbers kinds notes)
 IsDescriptor-joined bytes names numbers kinds notes first second last = record {
   bsa_owner = first.bsa_owner.is_text;
   app_owner = first.app_owner.is_text;
@@ -71,26 +78,52 @@ zeros_at bytes fills zeros =
 
 -- bytes whose fields stand at their offsets are the spelling of the descriptor that these make
 pub spelling-joined : (bytes : List ℕ) (names : Names) (numbers : Numbers) (kinds : Kinds) (notes : Notes) → length bytes ≡ 2624
-  → NamesAt bytes names → NumbersAt bytes numbers → KindsAt bytes kinds → NotesAt bytes notes → All (λ byte. byte ≡ 0) (drop 2598 bytes)
-  → bytes ≡ spelling (joined names numbers kinds notes)
+    → NamesAt bytes names → NumbersAt bytes numbers → KindsAt bytes kinds → NotesAt bytes notes → All (λ byte. byte ≡ 0) (drop 2598 bytes)
+    → bytes ≡ spelling (joined names numbers kinds notes)
 unfolding spelling
 spelling-joined bytes names numbers kinds notes fills first second third last zeros =
     let whole : take 2624 bytes ≡ bytes = take_all 2624 bytes (omega arith) in
-    rw (← whole, take-add 2598 26 bytes, zeros_at bytes fills zeros,
-      take-add 2342 256 bytes, last.info.padded_so, take-add 2242 100 bytes, last.description.padded_so, take-add 2211 31 bytes, last.resource.padded_so,
-      take-add 2210 1 bytes, third.status, take-add 2209 1 bytes, third.object_type, take-add 2208 1 bytes, third.copy_type,
-      take-add 2200 8 bytes, second.estimated_size.written_so, take-add 2192 8 bytes, second.restore_order.written_so,
-      take-add 2184 8 bytes, second.copy.written_so, take-add 2176 8 bytes, second.create_time.written_so,
-      take-add 1152 1024 bytes, first.path.padded_so, take-add 128 1024 bytes, first.space.padded_so,
-      take-add 64 64 bytes, first.app_owner.padded_so, first.bsa_owner.padded_so) refl
+    rw (
+      ← whole,
+      take-add 2598 26 bytes,
+      zeros_at bytes fills zeros,
+      take-add 2342 256 bytes,
+      last.info.padded_so,
+      take-add 2242 100 bytes,
+      last.description.padded_so,
+      take-add 2211 31 bytes,
+      last.resource.padded_so,
+      take-add 2210 1 bytes,
+      third.status,
+      take-add 2209 1 bytes,
+      third.object_type,
+      take-add 2208 1 bytes,
+      third.copy_type,
+      take-add 2200 8 bytes,
+      second.estimated_size.written_so,
+      take-add 2192 8 bytes,
+      second.restore_order.written_so,
+      take-add 2184 8 bytes,
+      second.copy.written_so,
+      take-add 2176 8 bytes,
+      second.create_time.written_so,
+      take-add 1152 1024 bytes,
+      first.path.padded_so,
+      take-add 128 1024 bytes,
+      first.space.padded_so,
+      take-add 64 64 bytes,
+      first.app_owner.padded_so,
+      first.bsa_owner.padded_so,
+    ) refl
 
 -- the last field of a list is what stands behind the front
 pub last_field : (at width : ℕ) (bytes front text : List ℕ) → at + width ≤ length bytes → length text ≡ width
-  → take (at + width) bytes ≡ front ++ text → (take at bytes ≡ front) × (field at width bytes ≡ text)
+    → take (at + width) bytes ≡ front ++ text → (take at bytes ≡ front) × (field at width bytes ≡ text)
 last_field at width bytes front text within wide split =
-    let at_front : length front ≡ at = omega (arith, length-take-le (at + width) bytes within, ap length split, length-append front text) in
-    (sym (take-take at (at + width) bytes (omega arith)) ∙ ap (take at) split ∙ take_at front text at at_front,
-      sym (drop-take at width bytes) ∙ ap (drop at) split ∙ drop_at front text at at_front)
+    let at_front : length front ≡ at = omega (arith, length-take-le (at + width) bytes within, ap length split, length-append front text) in (
+      sym (take-take at (at + width) bytes (omega arith)) ∙ ap (take at) split ∙ take_at front text at at_front,
+      sym (drop-take at width bytes) ∙ ap (drop at) split ∙ drop_at front text at at_front,
+    )
 
 pub length-padded : (width : ℕ) (text : List ℕ) → IsText width text → length (padded width text) ≡ width
 length-padded width text is_text =
@@ -201,10 +234,84 @@ FieldsAt-spelling bytes d fills fits e =
 
 -- a descriptor is made of its groups
 pub Some-joined : (names : Names) (numbers : Numbers) (kinds : Kinds) (notes : Notes) (d : Descriptor)
-  → Some names ≡ Some (names_in d) → numbers ≡ numbers_in d → Some kinds ≡ Some (kinds_in d) → Some notes ≡ Some (notes_in d)
-  → Some (joined names numbers kinds notes) ≡ Some d
+    → Some names ≡ Some (names_in d) → numbers ≡ numbers_in d → Some kinds ≡ Some (kinds_in d) → Some notes ≡ Some (notes_in d)
+    → Some (joined names numbers kinds notes) ≡ Some d
 Some-joined names numbers kinds notes d first second third last =
     let a : names ≡ names_in d = cc in
     let b : kinds ≡ kinds_in d = cc in
     let f : notes ≡ notes_in d = cc in
     rw (a, second, b, f) refl
+
+text_once : (at width : ℕ) (bytes text other : List ℕ) → TextAt at width bytes text → TextAt at width bytes other → text ≡ other
+text_once at width bytes text other h k = padded_once width text other (field at width bytes) h.is_text k.is_text h.padded_so k.padded_so
+
+number_once : (at : ℕ) (bytes : List ℕ) (number other : ℕ) → NumberAt at bytes number → NumberAt at bytes other → number ≡ other
+number_once at bytes number other h k =
+    sym (from_be_bytes-to_be_bytes_8 number h.fits) ∙ ap (from_be_bytes w64) (sym h.written_so ∙ k.written_so) ∙ from_be_bytes-to_be_bytes_8 other k.fits
+
+copy_type_once : (a b : CopyType) → copy_type_code a ≡ copy_type_code b → a ≡ b
+copy_type_once copy_type.Any copy_type.Any e = refl
+copy_type_once copy_type.Archive copy_type.Archive e = refl
+copy_type_once copy_type.Backup copy_type.Backup e = refl
+copy_type_once _ _ e = cc
+
+object_type_once : (a b : ObjectType) → object_type_code a ≡ object_type_code b → a ≡ b
+object_type_once object_type.Any object_type.Any e = refl
+object_type_once object_type.Database object_type.Database e = refl
+object_type_once object_type.Log object_type.Log e = refl
+object_type_once _ _ e = cc
+
+status_once : (a b : ObjectStatus) → status_code a ≡ status_code b → a ≡ b
+status_once status.Any status.Any e = refl
+status_once status.MostRecent status.MostRecent e = refl
+status_once status.NotMostRecent status.NotMostRecent e = refl
+status_once _ _ e = cc
+
+one_byte : (a b : ℕ) → a ∷ [] ≡ b ∷ [] → a ≡ b
+one_byte a b e = cc
+
+-- each group stands at its offsets once
+names_once : (bytes : List ℕ) (d other : Descriptor) → NamesAt bytes (names_in d) → NamesAt bytes (names_in other) → names_in d ≡ names_in other
+names_once bytes d other h k =
+    let a = text_once 0 64 bytes d.bsa_owner other.bsa_owner h.bsa_owner k.bsa_owner in
+    let b = text_once 64 64 bytes d.app_owner other.app_owner h.app_owner k.app_owner in
+    let f = text_once 128 1024 bytes d.space other.space h.space k.space in
+    let g = text_once 1152 1024 bytes d.path other.path h.path k.path in
+    rw (a, b, f, g) refl
+
+numbers_once : (bytes : List ℕ) (d other : Descriptor) → NumbersAt bytes (numbers_in d) → NumbersAt bytes (numbers_in other) → numbers_in d ≡ numbers_in other
+numbers_once bytes d other h k =
+    let a = number_once 2176 bytes d.create_time other.create_time h.create_time k.create_time in
+    let b = number_once 2184 bytes d.copy other.copy h.copy k.copy in
+    let f = number_once 2192 bytes d.restore_order other.restore_order h.restore_order k.restore_order in
+    let g = number_once 2200 bytes d.estimated_size other.estimated_size h.estimated_size k.estimated_size in
+    rw (a, b, f, g) refl
+
+kinds_once : (bytes : List ℕ) (d other : Descriptor) → KindsAt bytes (kinds_in d) → KindsAt bytes (kinds_in other) → kinds_in d ≡ kinds_in other
+kinds_once bytes d other h k =
+    let a = copy_type_once d.copy_type other.copy_type (one_byte _ _ (sym h.copy_type ∙ k.copy_type)) in
+    let b = object_type_once d.object_type other.object_type (one_byte _ _ (sym h.object_type ∙ k.object_type)) in
+    let f = status_once d.status other.status (one_byte _ _ (sym h.status ∙ k.status)) in
+    rw (a, b, f) refl
+
+notes_once : (bytes : List ℕ) (d other : Descriptor) → NotesAt bytes (notes_in d) → NotesAt bytes (notes_in other) → notes_in d ≡ notes_in other
+notes_once bytes d other h k =
+    let a = text_once 2211 31 bytes d.resource other.resource h.resource k.resource in
+    let b = text_once 2242 100 bytes d.description other.description h.description k.description in
+    let f = text_once 2342 256 bytes d.info other.info h.info k.info in
+    rw (a, b, f) refl
+
+-- no two descriptors have one spelling
+pub spelling_once : (bytes : List ℕ) (d other : Descriptor) → length bytes ≡ 2624 → IsDescriptor d → IsDescriptor other → bytes ≡ spelling d → bytes ≡ spelling other → other ≡ d
+spelling_once bytes d other fills is_d is_other e f =
+    let h : FieldsAt bytes d = FieldsAt-spelling bytes d fills is_d e in
+    let k : FieldsAt bytes other = FieldsAt-spelling bytes other fills is_other f in
+    let same : Some (joined (names_in other) (numbers_in other) (kinds_in other) (notes_in other)) ≡ Some d =
+    Some-joined (names_in other) (numbers_in other) (kinds_in other) (notes_in other) d
+    (ap Some (names_once bytes other d k.names h.names)) (numbers_once bytes other d k.numbers h.numbers)
+    (ap Some (kinds_once bytes other d k.kinds h.kinds)) (ap Some (notes_once bytes other d k.notes h.notes)) in
+    cc
+
+pub length-spelling : (d : Descriptor) → IsDescriptor d → length (spelling d) ≡ 2624
+unfolding spelling
+length-spelling d is = omega (arith, length-append {A = ℕ}, length-replicate {A = ℕ})

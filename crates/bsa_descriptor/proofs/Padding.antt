@@ -1,5 +1,5 @@
 -- Texts with zeros behind them.
-use Rattle.std.proofs.Common.{◌≡◌, ℕ, ◌+◌, ◌-◌, ◌<◌, ◌≤◌, Bool, true, false, nat_eq, nat_lt, List, [], ◌∷◌, ◌++◌, length, take, drop, replicate, get_or, position, All, Option, Some, None, IsSome, IfSome, refl, sym, ap, ◌∙◌, subst, arith, suc}
+use Rattle.std.proofs.Common.{◌≡◌, ℕ, ◌-◌, ◌<◌, ◌≤◌, false, nat_eq, List, [], ◌∷◌, ◌++◌, length, take, drop, replicate, position, All, Option, Some, None, IsSome, IfSome, refl, sym, ap, ◌∙◌, subst, arith, suc}
 use Rattle.std.proofs.lemmas.List.{length-take-le, length-drop, length-append, length-replicate, take-append-drop, take_at, drop_at, ext_get_or, get_or-replicate}
 use Rattle.std.proofs.lemmas.List.Elements.{All-head, All-tail, All-replicate, All-same}
 use Rattle.std.proofs.lemmas.Bool.{ne_eqb, lt-ltb}
@@ -64,3 +64,9 @@ only_index xs i j first again = cc
 
 pub position-within : (xs : List ℕ) (i : ℕ) → Some i ≡ position (λ byte. nat_eq byte 0) xs → i ≤ length xs
 position-within xs i found = let h : i < length xs = (position-Some (λ byte. nat_eq byte 0) xs i 0 (sym found)).0 in omega arith
+
+-- no two texts fill a field in the same way
+pub padded_once : (width : ℕ) (text other xs : List ℕ) → IsText width text → IsText width other → xs ≡ padded width text → xs ≡ padded width other → text ≡ other
+padded_once width text other xs is_text is_other e f =
+    let same : length text ≡ length other = only_index xs (length text) (length other) (sym (position-padded width text xs is_text e)) (position-padded width other xs is_other f) in
+    sym (take-padded width (length text) text xs e refl) ∙ take-padded width (length text) other xs f same

@@ -44,13 +44,13 @@ pub record IsDescriptor (d : Descriptor) : Type 0 where
 -- the one spelling of a descriptor, with the offset of each field
 unfoldable pub spelling : Descriptor → List ℕ
 spelling d =
-  -- 0, 64, 128 and 1,152
-  padded 64 d.bsa_owner ++ padded 64 d.app_owner ++ padded 1024 d.space ++ padded 1024 d.path
-  -- 2,176, 2,184, 2,192 and 2,200
-  ++ to_be_bytes w64 d.create_time ++ to_be_bytes w64 d.copy ++ to_be_bytes w64 d.restore_order ++ to_be_bytes w64 d.estimated_size
-  -- 2,208, 2,209 and 2,210
-  ++ copy_type_code d.copy_type ∷ [] ++ object_type_code d.object_type ∷ [] ++ status_code d.status ∷ []
-  -- 2,211, 2,242 and 2,342
-  ++ padded 31 d.resource ++ padded 100 d.description ++ padded 256 d.info
-  -- 2,598 to the end
-  ++ replicate 26 0
+    -- 0, 64, 128 and 1,152
+    padded 64 d.bsa_owner ++ padded 64 d.app_owner ++ padded 1024 d.space ++ padded 1024 d.path
+    -- 2,176, 2,184, 2,192 and 2,200
+    ++ to_be_bytes w64 d.create_time ++ to_be_bytes w64 d.copy ++ to_be_bytes w64 d.restore_order ++ to_be_bytes w64 d.estimated_size
+    -- 2,208, 2,209 and 2,210
+    ++ copy_type_code d.copy_type ∷ [] ++ object_type_code d.object_type ∷ [] ++ status_code d.status ∷ []
+    -- 2,211, 2,242 and 2,342
+    ++ padded 31 d.resource ++ padded 100 d.description ++ padded 256 d.info
+    -- 2,598 to the end
+    ++ replicate 26 0

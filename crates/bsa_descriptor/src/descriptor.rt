@@ -64,6 +64,8 @@ impl Descriptor {
     pub fn encode_into(&self, into: &mut [u8; 2624])
         ensures spelled { into.new ≡ spelling self.now }
         ensures descriptor { IsDescriptor self.now }
+        // So `decode` of the record is this descriptor: no other one is spelled so.
+        ensures only { (d : Descriptor) → IsDescriptor d → into.new ≡ spelling d → d ≡ self.now }
     {
         write_text(into, 0, &self.bsa_owner);
         write_text(into, 64, &self.app_owner);

@@ -1,10 +1,16 @@
 //! The descriptor of a backup object, and its record of 2,624 bytes.
+//!
+//! A text is made exactly of the printed characters that leave its field room for a zero byte. A
+//! descriptor is written in its one spelling, and no other descriptor has that spelling. Bytes are read
+//! exactly where a descriptor is spelled so, as that descriptor. No call takes memory.
 #![tactic(auto)]
 
 mod descriptor;
 mod groups;
 mod kinds;
 mod reading;
+#[cfg(test)]
+mod tests;
 mod text;
 mod writing;
 

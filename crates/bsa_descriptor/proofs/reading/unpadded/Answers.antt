@@ -1,4 +1,4 @@
-use Rattle.std.proofs.Common.{◌≡◌, ℕ, List, length, take, drop, Some, All, refl, sym, ◌∙◌, arith, rules}
+use Rattle.std.proofs.Common.{◌≡◌, ℕ, List, length, take}
 use Rattle.bsa_descriptor.specs.Text.{IsText, padded}
 use Rattle.bsa_descriptor.proofs.Padding.{padded-take, position-padded, take-padded, zeros_behind, IfSome-at, some_value, only_index, position-within}
 use Rattle.bsa_descriptor.proofs.reading.unpadded.Goals as goal

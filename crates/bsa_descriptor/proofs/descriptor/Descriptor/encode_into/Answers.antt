@@ -1,16 +1,34 @@
-use Rattle.std.proofs.Common.{rules, ◌≡◌, ◌≤◌, ◌∙◌, sym, ℕ, List, length, take, arith, refl}
+use Rattle.std.proofs.Common.{◌≡◌, take, arith, refl}
 use Rattle.std.proofs.lemmas.List.{take_all}
-use Rattle.bsa_descriptor.specs.Descriptor.{IsDescriptor, spelling}
+use Rattle.bsa_descriptor.specs.Descriptor.{spelling}
+use Rattle.bsa_descriptor.proofs.Fields.{spelling_once}
 use Rattle.bsa_descriptor.proofs.descriptor.Descriptor.encode_into.Goals as goal
 
 pub returns-clause-spelled : goal.returns-clause-spelled
 unfolding spelling
 returns-clause-spelled c =
     let whole : take 2624 c.write_zeros.new.into ≡ c.write_zeros.new.into = take_all 2624 c.write_zeros.new.into (omega arith) in
-    rw (← whole, c.write_zeros.ensures, c.write_text-7.ensures.written, c.write_text-6.ensures.written, c.write_text-5.ensures.written,
-      c.write_bytes-3.ensures, c.write_bytes-2.ensures, c.write_bytes.ensures, c.code-3.ensures, c.code-2.ensures, c.code.ensures,
-      c.write_number-4.ensures.written, c.write_number-3.ensures.written, c.write_number-2.ensures.written, c.write_number.ensures.written,
-      c.write_text-4.ensures.written, c.write_text-3.ensures.written, c.write_text-2.ensures.written, c.write_text.ensures.written) refl
+    rw (
+      ← whole,
+      c.write_zeros.ensures,
+      c.write_text-7.ensures.written,
+      c.write_text-6.ensures.written,
+      c.write_text-5.ensures.written,
+      c.write_bytes-3.ensures,
+      c.write_bytes-2.ensures,
+      c.write_bytes.ensures,
+      c.code-3.ensures,
+      c.code-2.ensures,
+      c.code.ensures,
+      c.write_number-4.ensures.written,
+      c.write_number-3.ensures.written,
+      c.write_number-2.ensures.written,
+      c.write_number.ensures.written,
+      c.write_text-4.ensures.written,
+      c.write_text-3.ensures.written,
+      c.write_text-2.ensures.written,
+      c.write_text.ensures.written,
+    ) refl
 
 pub returns-clause-descriptor : goal.returns-clause-descriptor
 returns-clause-descriptor c = record {
@@ -26,3 +44,7 @@ returns-clause-descriptor c = record {
   description = c.write_text-6.ensures.text;
   info = c.write_text-7.ensures.text;
 }
+
+pub returns-clause-only : goal.returns-clause-only
+returns-clause-only c d is e =
+    spelling_once c.write_zeros.new.into c.args.self.now d (omega arith) (returns-clause-descriptor c) is (returns-clause-spelled c) e

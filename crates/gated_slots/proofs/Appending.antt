@@ -1,0 +1,56 @@
+-- A batch behind the slots used, as `append` writes it.
+use Rattle.std.proofs.Common.{◌≡◌, ℕ, zero, suc, ◌+◌, ◌-◌, ◌*◌, ◌/◌, ◌%◌, ◌<◌, ◌≤◌, List, length, arith, ap, subst, sym, ◌∙◌}
+use Rattle.site_disk.specs.Images.{Leaves, OnlyAfter}
+use Rattle.site_disk.specs.ImagesLaws.{weaker}
+use Rattle.gated_slots.specs.Slots.{SlotsView, IsSlots, place_of, used, Gains, MayGain, Agrees, Reaches}
+use Rattle.gated_slots.specs.Writes.{with_batch, MayAdd}
+use Rattle.gated_slots.specs.SlotsLaws.{Fits, gains, may_gain}
+
+some_slots : (size n long : ℕ) → long ≡ size * n → 0 < long → 1 ≤ n
+some_slots size zero long is some = absurd (omega (arith, is, some))
+some_slots size (suc n) long is some = omega arith
+
+module _ (view : SlotsView) (batch : List ℕ) (is : IsSlots view) (whole : length batch % view.area.size ≡ 0) (some : 0 < length batch)
+    (room : view.used + length batch / view.area.size ≤ view.area.capacity) (gate : ℕ) (at_gate : gate ≡ view.area.gates + view.used + length batch / view.area.size - 1) where
+  abbrev count : ℕ
+  count = length batch / view.area.size
+
+  abbrev last : ℕ
+  last = view.used + count - 1
+
+  long : length batch ≡ view.area.size * count
+  long = omega (arith, whole, is.size)
+
+  positive : 1 ≤ count
+  positive = some_slots view.area.size count (length batch) long some
+
+  fits : Fits view.area view.used count batch
+  fits = record { apart = is.gates; some = positive; room = room; long = long }
+
+  last_is : last + 1 ≡ view.used + count
+  last_is = omega (arith, positive)
+
+  gate_is : gate ≡ view.area.gates + last
+  gate_is = omega (arith, at_gate, positive)
+
+  pub gained : (old new : List ℕ) → used view.area old ≡ view.used → Reaches view old
+      → new ≡ with_batch (place_of view.area view.used) batch gate old → Gains view.area count batch old new
+  gained old new counts reaches written =
+      subst (Gains view.area count batch old)
+      (sym (written ∙ ap (λ (g : ℕ). with_batch (place_of view.area view.used) batch g old) gate_is))
+      (gains view.area view.used count batch fits old counts reaches last last_is)
+
+  pub crash : (e before : ℕ) (bytes : List ℕ) (old new : ℕ → List ℕ → Type 0) → before ≤ e → Agrees view before bytes old
+      → Leaves e (MayAdd (place_of view.area view.used) batch gate) old new → Leaves e (MayGain view.area count batch) old new
+  crash e before bytes old new le agrees leaves =
+      weaker (MayGain view.area count batch) (MayAdd (place_of view.area view.used) batch gate) e old old new leaves
+      (λ f d c lt image may. may_gain view.area view.used count batch fits d (agrees.later f d (omega arith) image) last last_is c
+      (subst (λ (g : ℕ). MayAdd (place_of view.area view.used) batch g d c) gate_is may))
+
+-- the count that stands in the bytes stands in each later image, where they are the bytes
+pub agrees_after : (view : SlotsView) (e now : ℕ) (bytes : List ℕ) (images : ℕ → List ℕ → Type 0)
+    → ((f : ℕ) (c : List ℕ) → now < f → images f c → images (e + 1) c) → OnlyAfter e bytes images → used view.area bytes ≡ view.used → Agrees view now bytes images
+agrees_after view e now bytes images pending only counts = record {
+  now = counts;
+  later = λ f c lt image. ap (used view.area) (only (e + 1) c (omega arith) (pending f c lt image)) ∙ counts;
+}

@@ -1,0 +1,32 @@
+use Rattle.std.proofs.Common.{◌≡◌, ℕ, ◌+◌, ◌%◌, ◌/◌, List, length, refl, arith, subst, sym, ap, ◌∙◌}
+use Rattle.gated_slots.specs.Slots.{SlotsView}
+use Rattle.gated_slots.proofs.Appending.{gained, crash, agrees_after}
+use Rattle.gated_slots.proofs.slots.Slots.append.Goals as goal
+
+-- the batch is whole slots, said of the value as it was opened
+whole : (view now : SlotsView) (batch : List ℕ) → view ≡ now → length batch % now.area.size ≡ 0 → length batch % view.area.size ≡ 0
+whole view now batch is h = subst (λ (v : SlotsView). length batch % v.area.size ≡ 0) (sym is) h
+
+pub returns-in_err-add_batch-clause-crash : goal.returns-in_err-add_batch-clause-crash
+returns-in_err-add_batch-clause-crash g c = rw (← c.self.view_is) (λ tells reaches agrees.
+    crash _ c.args.batch.now c.self.invariant (whole _ _ c.args.batch.now c.self.view_is c.requires.whole) c.requires.some (omega arith) _ refl
+    c.args.era.now.number _ _ _ _ (omega arith) agrees (c.add_batch.ensures.crash tells reaches))
+
+pub returns-clause-crash : goal.returns-clause-crash
+returns-clause-crash g c = rw (← c.self.view_is) (λ tells reaches agrees.
+    crash _ c.args.batch.now c.self.invariant (whole _ _ c.args.batch.now c.self.view_is c.requires.whole) c.requires.some (omega arith) _ refl
+    c.args.era.now.number _ _ _ _ (omega arith) agrees (c.add_batch.ensures.crash tells reaches))
+
+pub returns-clause-gained : goal.returns-clause-gained
+returns-clause-gained g c = rw (← c.self.view_is) (λ tells reaches agrees.
+    gained _ c.args.batch.now c.self.invariant (whole _ _ c.args.batch.now c.self.view_is c.requires.whole) c.requires.some (omega arith) _ refl
+    (g.D.Disk.bytes c.args.disk.now) (g.D.Disk.bytes c.add_batch.new.disk) agrees.now reaches (c.in_ok-add_batch.ensures.bytes tells reaches))
+
+pub returns-clause-agrees : goal.returns-clause-agrees
+returns-clause-agrees g c = rw (← c.self.view_is) (λ tells reaches agrees.
+    agrees_after _ c.args.era.now.number (g.D.Disk.ledger c.add_batch.new.disk).last (g.D.Disk.bytes c.add_batch.new.disk) (g.D.Disk.image c.add_batch.new.disk)
+    (λ f image_of lt image. g.met.D.Disk.now_counts c.add_batch.new.disk (c.args.era.now.number + 1) f image_of (omega arith) lt image)
+    (c.in_ok-add_batch.ensures.durable tells)
+    ((gained _ c.args.batch.now c.self.invariant (whole _ _ c.args.batch.now c.self.view_is c.requires.whole) c.requires.some (omega arith) _ refl
+    (g.D.Disk.bytes c.args.disk.now) (g.D.Disk.bytes c.add_batch.new.disk) agrees.now reaches (c.in_ok-add_batch.ensures.bytes tells reaches)).used
+    ∙ ap (λ (k : ℕ). k + length c.args.batch.now / c.self.inside.size) agrees.now))

@@ -1,0 +1,66 @@
+-- What the clauses of a command say: where a stop may leave it, what it did at its end, what it read and printed.
+use Rattle.std.specs.Prelude.{◌≡◌, ◌⊎◌, ℕ, ◌+◌, ◌<◌, ◌≤◌, List, [], ◌∷◌, ◌++◌, length, Option, Some, None}
+use Rattle.onbar_grammar.specs.Script.{Raw, spelled, raw_lines, line_fault, line_of}
+use Rattle.onbar_grammar.specs.Words.{refused_word}
+use Rattle.site_model.specs.declared.disk_name.DiskName.{DiskName}
+use Rattle.site_model.specs.declared.status.Status.{Status}
+use Rattle.site_model.specs.declared.status.Status.TheVariants.{Ok as Done, OutOfMemory, ReadFault, WriteFault, DiskFault}
+use Rattle.site_model.specs.Worlds.{World, IsFit}
+use Rattle.site_model.specs.Layouts.{Shows, StandFor}
+use Rattle.site_model.specs.Runs.{Run}
+use Rattle.site_model.specs.Steps.{ImagesOf, Frame, StandsAmong, ShowsOrRests, Passes}
+
+-- a world is one of a list
+abbrev pub IsAmong : List World → World → Type 0
+IsAmong [] world = ⊥
+IsAmong (first ∷ others) world = (world ≡ first) ⊎ IsAmong others world
+
+-- a stopped world of a run: the one at its begin, or one that it passes
+abbrev pub IsPassed : World → Run → World → Type 0
+IsPassed begin run world = IsAmong (begin ∷ run.passed) world
+
+-- each choice of one image per disk of an era stands for a fit world
+abbrev pub IsSound : ℕ → ImagesOf → Type 0
+IsSound era images =
+    (choice : DiskName → List ℕ) → ((name : DiskName) → images era name (choice name)) → (world : World) × IsFit world × StandFor choice world
+
+-- The walk of a command: in its first era, the one behind the era at entry, nothing is written; it leaves the disks alone
+-- that it doesn't sync.
+abbrev pub frame_of : ℕ → ImagesOf → (DiskName → Type 0) → (World → Type 0) → Frame World
+frame_of entry old rests passed = record { shows = Shows; first = entry + 1; old = old; rests = rests; passes = passed }
+
+-- a status that ends a command as a stop does
+abbrev pub CutsShort : Status → Type 0
+CutsShort OutOfMemory = Unit {0}
+CutsShort ReadFault = Unit {0}
+CutsShort WriteFault = Unit {0}
+CutsShort (DiskFault name) = Unit {0}
+CutsShort status = ⊥
+
+-- each choice of images of the eras from one on stands for the last world of a run
+abbrev pub AtItsEnd : Run → ℕ → ((World → Type 0) → Frame World) → ImagesOf → Type 0
+AtItsEnd run era frame new = (f : ℕ) → era ≤ f → StandsAmong (frame (λ world. world ≡ run.last)) f (new f)
+
+-- what a command did that wasn't cut short: status, text, what the disks read as, what a crash from the era at exit on leaves
+pub record Did (run : Run) (result : Status) (taken_before taken_after : List ℕ) (contents : DiskName → List ℕ) (era : ℕ)
+    (frame : (World → Type 0) → Frame World) (new : ImagesOf) : Type 0 where
+  pub status : result ≡ run.status
+  pub text : taken_after ≡ taken_before ++ run.text
+  pub reads : StandFor contents run.last
+  pub crash : AtItsEnd run era frame new
+
+-- a front of a text, and not the whole
+abbrev pub IsFront : List ℕ → List ℕ → Type 0
+IsFront printed text = (rest : List ℕ) × (text ≡ printed ++ rest) × (rest ≡ [] → ⊥)
+
+-- What a command printed that was cut short: nothing, or a front of its text, and that only once all its work stands.
+pub record Printed (run : Run) (taken_before taken_after : List ℕ) (era : ℕ) (frame : (World → Type 0) → Frame World) (new : ImagesOf) : Type 0 where
+  pub printed : List ℕ
+  pub text : taken_after ≡ taken_before ++ printed
+  pub after_work : (printed ≡ []) ⊎ (IsFront printed run.text × AtItsEnd run era frame new)
+
+-- what `-T` takes of its script: a front of it, all of it at Ok; a command whose words are refused takes nothing
+pub record ReadsOf (words : List (List ℕ)) (result : Status) (before after : List ℕ) : Type 0 where
+  pub front : (taken : List ℕ) × (before ≡ taken ++ after)
+  pub nothing : (n : ℕ) → refused_word words ≡ Some n → after ≡ before
+  pub to_end : refused_word words ≡ None → result ≡ Done → after ≡ []

@@ -1,0 +1,15 @@
+//! The model of a site: the worlds that its disks stand for, what each disk shows of a world, what a command makes
+//! of a world, and where a stop may leave it.
+//!
+//! Definitions and laws over them, and the few types that both the definitions and the program name.
+#![tactic(auto)]
+
+mod disk_name;
+mod lacking;
+mod laws;
+mod status;
+
+pub use disk_name::DiskName;
+pub use laws::{Staged, stops_are_listed};
+pub use lacking::{Lacking, LackingList, What};
+pub use status::{LogFull, Status};
