@@ -312,6 +312,7 @@ spelling_once bytes d other fills is_d is_other e f =
     (ap Some (kinds_once bytes other d k.kinds h.kinds)) (ap Some (notes_once bytes other d k.notes h.notes)) in
     cc
 
+-- how long a record is, for layouts that hold one
 pub length-spelling : (d : Descriptor) → IsDescriptor d → length (spelling d) ≡ 2624
 unfolding spelling
 length-spelling d is = omega (arith, length-append {A = ℕ}, length-replicate {A = ℕ})

@@ -27,11 +27,15 @@ pub struct Descriptor {
     pub restore_order: u64,
     /// The size that the application expects, in bytes.
     pub estimated_size: u64,
+    /// What the object is a copy for.
     pub copy_type: CopyType,
+    /// What the object holds.
     pub object_type: ObjectType,
+    /// Whether the object is the newest of its name.
     pub status: ObjectStatus,
-    /// What the object is a copy of.
+    /// The type of the resource that the object is a copy of.
     pub resource: Text<31>,
+    /// A few words on the object.
     pub description: Text<100>,
     /// Whatever the application notes.
     pub info: Text<256>,
@@ -60,12 +64,15 @@ impl Descriptor {
         }
     }
 
-    /// Writes the record of the descriptor over whatever the array has.
+    /// Writes the record of the descriptor, 2,624 bytes, over whatever the array has.
+    ///
+    /// Each text stands in its field with zeros behind it, each number in eight bytes, big-endian, and each
+    /// kind in one byte, 1 to 3.
     pub fn encode_into(&self, into: &mut [u8; 2624])
         ensures spelled { into.new ≡ spelling self.now }
         ensures descriptor { IsDescriptor self.now }
-        // So `decode` of the record is this descriptor: no other one is spelled so.
-        ensures only { (d : Descriptor) → IsDescriptor d → into.new ≡ spelling d → d ≡ self.now }
+        // So `decode` of the record gives this descriptor back.
+        ensures no_other { (d : Descriptor) → IsDescriptor d → into.new ≡ spelling d → d ≡ self.now }
     {
         write_text(into, 0, &self.bsa_owner);
         write_text(into, 64, &self.app_owner);
@@ -84,7 +91,7 @@ impl Descriptor {
         write_zeros(into, 2598, 26);
     }
 
-    /// The descriptor that the bytes spell, or `None` where they spell none.
+    /// The descriptor that the bytes spell, or `None` exactly where no descriptor is spelled so.
     pub fn decode(bytes: &[u8; 2624]) -> Option<Descriptor>
         ensures found { IfSome result (λ d. bytes.now ≡ spelling d) }
         ensures descriptor { IfSome result IsDescriptor }

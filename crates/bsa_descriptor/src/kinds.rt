@@ -2,27 +2,36 @@
 ghost use Rattle.std.specs.Prelude.{◌≡◌, Some, IfSome};
 ghost use Rattle.bsa_descriptor.specs.Kinds.{copy_type_code, object_type_code, status_code};
 
-/// What an object is a copy for. `Any` is for queries.
+/// What an object is a copy for.
 #[derive(Clone, Copy, Debug, PartialEq, Eq)]
 pub enum CopyType {
+    /// Of a query: either.
     Any,
+    /// To be kept.
     Archive,
+    /// To restore from.
     Backup,
 }
 
-/// What an object holds. `Any` is for queries.
+/// What an object holds.
 #[derive(Clone, Copy, Debug, PartialEq, Eq)]
 pub enum ObjectType {
+    /// Of a query: either.
     Any,
+    /// Pages of a dbspace.
     Database,
+    /// A file of the logical log.
     Log,
 }
 
-/// Whether an object is the newest of its name. `Any` is for queries.
+/// Whether an object is the newest of its name.
 #[derive(Clone, Copy, Debug, PartialEq, Eq)]
 pub enum ObjectStatus {
+    /// Of a query: either.
     Any,
+    /// No later object has its name.
     MostRecent,
+    /// A later object has its name.
     NotMostRecent,
 }
 

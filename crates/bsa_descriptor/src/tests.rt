@@ -1,7 +1,18 @@
 //! The layout, byte by byte, and the texts that fit.
 
+ghost use Rattle.std.specs.Prelude.{◌≡◌, Some};
+
 use super::*;
 use std::test::Fail;
+
+/// What is written is read again, for every descriptor.
+fn read_again(descriptor: &Descriptor) -> Option<Descriptor>
+    ensures { result ≡ Some descriptor.now }
+{
+    let mut bytes = [0xee; 2624];
+    descriptor.encode_into(&mut bytes);
+    Descriptor::decode(&bytes)
+}
 
 fn sample() -> Option<Descriptor> {
     Some(Descriptor {
@@ -123,5 +134,6 @@ fn an_empty_descriptor_asks_for_anything(rt: HostRuntime) -> Result<(), Fail> {
     assert_eq!(rt; empty.create_time, 0);
     let copy = empty.clone()?;
     assert!(rt; copy == empty);
+    assert_eq!(rt; read_again(&empty), Some(copy));
     Ok(())
 }

@@ -3,8 +3,8 @@ use Rattle.std.proofs.Common.{◌≡◌, ℕ, zero, suc, ◌+◌, ◌-◌, ◌*�
 use Rattle.site_disk.specs.Images.{Leaves, OnlyAfter}
 use Rattle.site_disk.specs.ImagesLaws.{weaker}
 use Rattle.gated_slots.specs.Slots.{SlotsView, IsSlots, place_of, used, Gains, MayGain, Agrees, Reaches}
-use Rattle.gated_slots.specs.Writes.{with_batch, MayAdd}
-use Rattle.gated_slots.specs.SlotsLaws.{Fits, gains, may_gain}
+use Rattle.gated_slots.specs.Writes.{filled, with_batch, MayAdd}
+use Rattle.gated_slots.specs.SlotsLaws.{BatchFits, gains, may_gain, filled_there, used-filled, length-filled}
 
 some_slots : (size n long : ℕ) → long ≡ size * n → 0 < long → 1 ≤ n
 some_slots size zero long is some = absurd (omega (arith, is, some))
@@ -24,7 +24,7 @@ module _ (view : SlotsView) (batch : List ℕ) (is : IsSlots view) (whole : leng
   positive : 1 ≤ count
   positive = some_slots view.area.size count (length batch) long some
 
-  fits : Fits view.area view.used count batch
+  fits : BatchFits view.area view.used count batch
   fits = record { apart = is.gates; some = positive; room = room; long = long }
 
   last_is : last + 1 ≡ view.used + count
@@ -34,11 +34,22 @@ module _ (view : SlotsView) (batch : List ℕ) (is : IsSlots view) (whole : leng
   gate_is = omega (arith, at_gate, positive)
 
   pub gained : (old new : List ℕ) → used view.area old ≡ view.used → Reaches view old
-      → new ≡ with_batch (place_of view.area view.used) batch gate old → Gains view.area count batch old new
+      → new ≡ with_batch (place_of view.area view.used) batch gate (filled (place_of view.area view.used) old) → Gains view.area count batch old new
   gained old new counts reaches written =
       subst (Gains view.area count batch old)
-      (sym (written ∙ ap (λ (g : ℕ). with_batch (place_of view.area view.used) batch g old) gate_is))
+      (sym (written ∙ ap (with_batch (place_of view.area view.used) batch gate) (filled_there (place_of view.area view.used) old reaches)
+      ∙ ap (λ (g : ℕ). with_batch (place_of view.area view.used) batch g old) gate_is))
       (gains view.area view.used count batch fits old counts reaches last last_is)
+
+  -- also where the disk didn't reach the place
+  pub used_after : (old new : List ℕ) → used view.area old ≡ view.used
+      → new ≡ with_batch (place_of view.area view.used) batch gate (filled (place_of view.area view.used) old) → used view.area new ≡ view.used + count
+  used_after old new counts written =
+      let place = place_of view.area view.used in
+      let from = filled place old in
+      let same : used view.area from ≡ view.used = used-filled view.area place old ∙ counts in
+      let reaches : place ≤ length from = omega (arith, length-filled place old) in
+      (gained from new same reaches (written ∙ ap (with_batch place batch gate) (sym (filled_there place from reaches)))).used ∙ ap (λ (k : ℕ). k + count) same
 
   pub crash : (e before : ℕ) (bytes : List ℕ) (old new : ℕ → List ℕ → Type 0) → before ≤ e → Agrees view before bytes old
       → Leaves e (MayAdd (place_of view.area view.used) batch gate) old new → Leaves e (MayGain view.area count batch) old new

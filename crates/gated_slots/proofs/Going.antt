@@ -1,9 +1,10 @@
 -- How a call goes on from another.
-use Rattle.std.proofs.Common.{ℕ, ◌+◌, ◌≤◌, List, inl, inr, arith, ⊎_elim, ◌∙◌}
-use Rattle.site_disk.specs.Bytes.{Torn}
+use Rattle.std.proofs.Common.{ℕ, ◌+◌, ◌≤◌, List, inl, inr, arith, ⊎_elim, ◌∙◌, refl, subst, sym}
+use Rattle.std.specs.Prelude.{Result, Ok, Err, OnOk}
+use Rattle.site_disk.specs.Bytes.{Torn, Same}
 use Rattle.site_disk.specs.BytesLaws.{torn_wider, torn_again}
 use Rattle.site_disk.specs.Images.{Leaves, Unchanged}
-use Rattle.site_disk.specs.Ledger.{Ledger, EraView, Uses, CountsWrite}
+use Rattle.site_disk.specs.Ledger.{Ledger, EraView, MayUse, Uses, CountsWrite}
 use Rattle.site_disk.specs.ImagesLaws.{goes_on}
 
 module _ (R : List ℕ → List ℕ → Type 0) (e : ℕ) (old mid new : ℕ → List ℕ → Type 0) where
@@ -13,14 +14,6 @@ module _ (R : List ℕ → List ℕ → Type 0) (e : ℕ) (old mid new : ℕ →
     earlier = λ f c lt image. same.back f c (l.earlier f c lt image);
     during = λ c image. ⊎_elim (λ was. inl (same.back e c was)) (λ step. inr (step.0, same.back (e + 1) step.0 step.1, step.2)) (l.during c image);
     later = λ f c lt image. let from = l.later f c lt image in (from.0, same.back f from.0 from.1, from.2);
-  }
-
-  -- no image has changed
-  pub unchanged : ((c : List ℕ) → R c c) → Unchanged old new → Leaves e R old new
-  unchanged reflexive same = record {
-    earlier = λ f c lt image. same.back f c image;
-    during = λ c image. inl (same.back e c image);
-    later = λ f c lt image. (c, same.back f c image, reflexive c);
   }
 
 -- a write within the range that was written before
@@ -42,3 +35,41 @@ uses_write {era = era} {all = all} {old = old} {mid = mid} {new = new} so_far wr
   written = omega (arith, so_far.written, write.written, le);
   synced = omega (arith, so_far.synced, so_far.no_later, write.synced, write.last);
 }
+
+-- a sync or a read after it
+pub then_same : (R : List ℕ → List ℕ → Type 0) (e : ℕ) (old mid new : ℕ → List ℕ → Type 0) → Leaves e R old mid → Leaves e Same mid new → Leaves e R old new
+then_same R e old mid new first second =
+    goes_on R Same e old mid new first second
+    (λ f d c lt image same. let was = first.later f d lt image in (was.0, was.1, subst (λ (l : List ℕ). R was.0 l) (sym same) was.2))
+
+pub unchanged_again : {old mid new : ℕ → List ℕ → Type 0} → Unchanged old mid → Unchanged mid new → Unchanged old new
+unchanged_again first second = record { forth = λ f c image. second.forth f c (first.forth f c image); back = λ f c image. first.back f c (second.back f c image) }
+
+-- nothing yet
+pub uses_nothing : {era : EraView} {ledger : Ledger} → MayUse era ledger → Uses era 0 0 ledger ledger
+uses_nothing may = record {
+  key = refl;
+  no_earlier = omega arith;
+  no_later = may.not_past;
+  faults = omega arith;
+  read = omega arith;
+  written = omega arith;
+  synced = may.synced;
+}
+
+-- one call after another
+pub uses_again : {era : EraView} {reads more all : ℕ} {old mid new : Ledger} → Uses era reads 0 old mid → Uses era more 0 mid new → reads + more ≤ all → Uses era all 0 old new
+uses_again first second le = record {
+  key = second.key ∙ first.key;
+  no_earlier = omega (arith, first.no_earlier, second.no_earlier);
+  no_later = second.no_later;
+  faults = omega (arith, first.faults, second.faults);
+  read = omega (arith, first.read, second.read, le);
+  written = omega (arith, first.written, second.written);
+  synced = second.synced;
+}
+
+-- what holds at the Ok of a last call
+pub on_ok : {T E P Q : Type 0} (result : Result T E) → (P → Q) → OnOk result P → OnOk result Q
+on_ok (Ok x) means is = means is
+on_ok (Err e) means is = is

@@ -1,3 +1,4 @@
 mod Going
 mod Zeroing
 mod Appending
+mod Counting

@@ -1,7 +1,7 @@
 -- Zero bytes written piece by piece.
-use Rattle.std.proofs.Common.{◌≡◌, ℕ, ◌+◌, ◌-◌, ◌≤◌, List, [], ◌++◌, length, take, drop, Bool, IsTrue, arith, ap, ◌∙◌, append_assoc, take-append-drop, length-append}
+use Rattle.std.proofs.Common.{◌≡◌, ℕ, ◌+◌, ◌-◌, ◌≤◌, List, ◌++◌, length, take, drop, Bool, IsTrue, arith, ap, ◌∙◌, append_assoc, length-append}
 use Rattle.std.specs.Prelude.{replicate}
-use Rattle.std.proofs.lemmas.List.{replicate-append-replicate, length-replicate, append-nil, take_at, length-take-le, take-replicate}
+use Rattle.std.proofs.lemmas.List.{replicate-append-replicate, length-replicate, take_at, length-take-le, take-replicate}
 use Rattle.site_disk.specs.Bytes.{written, Torn}
 use Rattle.site_disk.specs.BytesLaws.{drop-written}
 use Rattle.site_disk.specs.Images.{Leaves}
@@ -14,9 +14,6 @@ pub record Zeroed {D : Type 0} (tells : Bool) (bytes : D → List ℕ) (image : 
   pub content : IsTrue tells → bytes new ≡ written from (replicate (at - from) 0) (bytes old)
   pub crash : Leaves era.number (Torn from (to - from)) (image old) (image new)
   pub uses : Uses era 0 (at - from) (ledger old) (ledger new)
-
-pub written-nil : (at : ℕ) (bytes : List ℕ) → written at [] bytes ≡ bytes
-written-nil at bytes = ap (λ (l : List ℕ). l ++ drop (at + 0) bytes) (append-nil (take at bytes)) ∙ ap (λ (n : ℕ). take at bytes ++ drop n bytes) (omega arith) ∙ take-append-drop at bytes
 
 pub written-written : (at : ℕ) (front back bytes : List ℕ) → at ≤ length bytes
     → written (at + length front) back (written at front bytes) ≡ written at (front ++ back) bytes

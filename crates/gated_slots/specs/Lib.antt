@@ -1,3 +1,5 @@
 pub mod Slots
 pub mod SlotsLaws
 pub mod Writes
+pub mod Header
+pub mod HeaderLaws

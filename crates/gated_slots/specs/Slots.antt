@@ -1,5 +1,5 @@
 -- An area of slots on a disk: what its gates say, and what calls do to it.
-use Rattle.std.specs.Prelude.{◌≡◌, ◌⊎◌, ℕ, zero, suc, ◌+◌, ◌*◌, ◌^◌, ◌<◌, ◌≤◌, List, [], ◌∷◌, ◌++◌, length}
+use Rattle.std.specs.Prelude.{◌≡◌, ◌⊎◌, ℕ, zero, suc, ◌+◌, ◌-◌, ◌*◌, ◌/◌, ◌^◌, ◌<◌, ◌≤◌, min, max, List, [], ◌∷◌, ◌++◌, length, replicate}
 use Rattle.site_disk.specs.Bytes.{extent, Apart}
 use Rattle.site_disk.specs.Images.{Unchanged}
 
@@ -38,6 +38,10 @@ used_of (gate ∷ gates) = with_gate gate (used_of gates)
 abbrev pub used : Area → List ℕ → ℕ
 used area bytes = used_of (extent area.gates area.capacity bytes)
 
+-- the number of slots that some bytes fill
+abbrev pub slots_in : Area → List ℕ → ℕ
+slots_in area bytes = length bytes / area.size
+
 -- where a slot begins
 abbrev pub place_of : Area → ℕ → ℕ
 place_of area slot = area.slots + area.size * slot
@@ -48,7 +52,8 @@ held area bytes = extent area.slots (area.size * used area bytes) bytes
 
 -- all ranges apart from the area's gates and slots are as before
 abbrev pub Elsewhere : Area → List ℕ → List ℕ → Type 0
-Elsewhere area old new = (from len : ℕ) → Apart area.gates area.capacity from len → Apart area.slots (area.size * area.capacity) from len → extent from len new ≡ extent from len old
+Elsewhere area old new = (from len : ℕ) → Apart area.gates area.capacity from len
+    → Apart area.slots (area.size * area.capacity) from len → extent from len new ≡ extent from len old
 
 -- the same slots used
 pub record Keeps (area : Area) (old new : List ℕ) : Type 0 where
@@ -69,6 +74,20 @@ pub record MayGain (area : Area) (n : ℕ) (batch old new : List ℕ) : Type 0 w
   pub slots : Keeps area old new ⊎ Gains area n batch old new
   pub elsewhere : Elsewhere area old new
   pub no_shorter : length old ≤ length new
+
+-- where the gates end
+abbrev pub end_of_gates : Area → ℕ
+end_of_gates area = area.gates + area.capacity
+
+-- where zero bytes begin that close all gates: where the bytes end before the gates, at their end
+abbrev pub first_zero : Area → List ℕ → ℕ
+first_zero area bytes = min area.gates (length bytes)
+
+-- zero bytes stand from one place up to another, the bytes go on at least to there, and elsewhere nothing has changed
+pub record Zeroes (from to : ℕ) (old new : List ℕ) : Type 0 where
+  pub zeros : extent from (to - from) new ≡ replicate (to - from) 0
+  pub elsewhere : (place len : ℕ) → Apart from (to - from) place len → extent place len new ≡ extent place len old
+  pub long : length new ≡ max (length old) to
 
 -- the value's count is what the gates say, in what a read gives and in every image of later eras
 pub record Agrees (view : SlotsView) (last : ℕ) (bytes : List ℕ) (images : ℕ → List ℕ → Type 0) : Type 0 where

@@ -1,14 +1,14 @@
 -- Laws of gates and slots.
-use Rattle.std.specs.Prelude.{◌≡◌, ℕ, zero, suc, ◌+◌, ◌-◌, ◌*◌, ◌<◌, ◌≤◌, List, [], ◌∷◌, ◌++◌, length, take, drop, replicate, refl}
+use Rattle.std.specs.Prelude.{◌≡◌, ℕ, zero, suc, ◌+◌, ◌-◌, ◌*◌, ◌<◌, ◌≤◌, max, List, [], ◌∷◌, ◌++◌, length, take, drop, replicate, refl}
 use mathlib.Core.Logic.{inl, inr}
-use Rattle.std.proofs.Common.{arith, ap, sym, ◌∙◌, ⊎_elim, subst, get_or}
-use Rattle.std.proofs.lemmas.List.{drop_at, drop-drop, drop-take, take-take, length-take, take-append-drop, drop_more}
+use Rattle.std.proofs.Common.{arith, ap, sym, ◌∙◌, ⊎_elim, subst, get_or, length-append}
+use Rattle.std.proofs.lemmas.List.{append-nil, drop_at, drop-drop, drop-take, take-take, length-take, take-append-drop, drop_more, length-replicate, take-replicate, drop-replicate}
 use Rattle.std.proofs.lemmas.Bool.{cases_eq}
 use Rattle.std.proofs.Math.Nat.{mul-le-mul_left}
 use Rattle.site_disk.specs.Bytes.{extent, written, Torn, Apart}
-use Rattle.site_disk.specs.BytesLaws.{extent-written, length-written, torn_whole, length-extent}
-use Rattle.gated_slots.specs.Writes.{with_batch, MayAdd}
-use Rattle.gated_slots.specs.Slots.{Area, with_gate, used_of, used, held, place_of, Elsewhere, Keeps, Gains, MayGain, Refused}
+use Rattle.site_disk.specs.BytesLaws.{extent-written, length-written, torn_whole, length-extent, extent-extent}
+use Rattle.gated_slots.specs.Writes.{filled, with_batch, MayAdd}
+use Rattle.gated_slots.specs.Slots.{Area, with_gate, used_of, used, held, place_of, Elsewhere, Keeps, Gains, MayGain, Refused, Zeroes}
 
 -- gates
 
@@ -69,6 +69,27 @@ unfolding used_of
 used_of-replicate zero = refl
 used_of-replicate (suc n) = ap (with_gate 0) (used_of-replicate n)
 
+used_of-take-replicate : (n k : ℕ) → used_of (take n (replicate k 0)) ≡ 0
+unfolding used_of
+used_of-take-replicate zero k = refl
+used_of-take-replicate (suc n) zero = refl
+used_of-take-replicate (suc n) (suc k) = ap (with_gate 0) (used_of-take-replicate n k)
+
+-- zero bytes behind others open no gate
+pub used_of-padded : (at n k : ℕ) (xs : List ℕ) → used_of (extent at n (xs ++ replicate k 0)) ≡ used_of (extent at n xs)
+unfolding used_of
+used_of-padded at n k [] =
+    ap (λ (l : List ℕ). used_of (take n l)) (drop-replicate at k 0) ∙ used_of-take-replicate n (k - at) ∙ sym (used_of-none at n)
+  where
+    used_of-none : (at n : ℕ) → used_of (take n (drop at [])) ≡ 0
+    used_of-none zero zero = refl
+    used_of-none zero (suc n) = refl
+    used_of-none (suc at) zero = refl
+    used_of-none (suc at) (suc n) = refl
+used_of-padded (suc at) n k (x ∷ xs) = used_of-padded at n k xs
+used_of-padded zero zero k (x ∷ xs) = refl
+used_of-padded zero (suc n) k (x ∷ xs) = ap (with_gate x) (used_of-padded zero n k xs)
+
 -- A gate behind those used, between closed ones: it's found closed, and then nothing has changed, or it makes its slot the last used.
 module _ (front back : List ℕ) (was : ℕ) (i : ℕ) (long : length front ≡ i) (behind : used_of (front ++ was ∷ back) ≤ i) where
   none_from : used_of (was ∷ back) ≡ 0
@@ -115,16 +136,30 @@ extent-about at i r xs lt =
     extent-add at i (1 + r) xs
     ∙ ap (λ (l : List ℕ). extent at i xs ++ l) (extent-add (at + i) 1 r xs ∙ ap (λ (l : List ℕ). l ++ extent (at + i + 1) r xs) (extent-one (at + i) xs lt))
 
+-- bytes that reach a place aren't filled up to it
+pub filled_there : (place : ℕ) (bytes : List ℕ) → place ≤ length bytes → filled place bytes ≡ bytes
+filled_there place bytes le =
+    let none : place - length bytes ≡ 0 = omega (arith, le) in ap (λ (k : ℕ). bytes ++ replicate k 0) none ∙ append-nil bytes
+
+pub length-filled : (place : ℕ) (bytes : List ℕ) → length (filled place bytes) ≡ max place (length bytes)
+length-filled place bytes =
+    let zeros : List ℕ = replicate (place - length bytes) 0 in
+    omega (arith, length-append bytes zeros, length-replicate {A = ℕ} (place - length bytes) 0)
+
+-- zero bytes open no gate
+pub used-filled : (area : Area) (place : ℕ) (bytes : List ℕ) → used area (filled place bytes) ≡ used area bytes
+used-filled area place bytes = used_of-padded area.gates area.capacity (place - length bytes) bytes
+
 -- a batch behind the slots used
 
 -- what `append` has worked out: the batch of n slots fits behind those used
-pub record Fits (area : Area) (used n : ℕ) (batch : List ℕ) : Type 0 where
+pub record BatchFits (area : Area) (used n : ℕ) (batch : List ℕ) : Type 0 where
   pub apart : area.gates + area.capacity ≤ area.slots
   pub some : 1 ≤ n
   pub room : used + n ≤ area.capacity
   pub long : length batch ≡ area.size * n
 
-module _ (area : Area) (u n : ℕ) (batch : List ℕ) (fits : Fits area u n batch) where
+module _ (area : Area) (u n : ℕ) (batch : List ℕ) (fits : BatchFits area u n batch) where
   in_slots : (from len : ℕ) → Apart area.slots (area.size * area.capacity) from len → Apart (place_of area u) (length batch) from len
   in_slots from len apart =
       let room : area.size * (u + n) ≤ area.size * area.capacity = mul-le-mul_left area.size fits.room in
@@ -262,7 +297,7 @@ refused_same bytes image old new same = record {
   };
 }
 
--- reflexive
+-- a call that does nothing keeps the slots
 pub keeps_same : (area : Area) (bytes : List ℕ) → Keeps area bytes bytes
 keeps_same area bytes = record { used = refl; held = refl; elsewhere = λ from len gates slots. refl; no_shorter = omega arith }
 
@@ -270,16 +305,56 @@ keeps_same area bytes = record { used = refl; held = refl; elsewhere = λ from l
 pub used_by_gates : (area : Area) (old new : List ℕ) → extent area.gates area.capacity new ≡ extent area.gates area.capacity old → used area new ≡ used area old
 used_by_gates area old new same = ap used_of same
 
--- and their bytes by the area's slots besides
+-- no more slots are used than there are
+pub used_within : (area : Area) (bytes : List ℕ) → used area bytes ≤ area.capacity
+used_within area bytes = omega (arith, used_of_le (extent area.gates area.capacity bytes), length-take area.capacity (drop area.gates bytes))
+
+-- their bytes are decided by the gates and the area's slots
 pub held_by_slots : (area : Area) (old new : List ℕ) → extent area.gates area.capacity new ≡ extent area.gates area.capacity old
     → extent area.slots (area.size * area.capacity) new ≡ extent area.slots (area.size * area.capacity) old → held area new ≡ held area old
 held_by_slots area old new gates slots =
     let same = used_by_gates area old new gates in
-    let some : (bytes : List ℕ) → used area bytes ≤ area.capacity = λ bytes. omega (arith, used_of_le (extent area.gates area.capacity bytes), length-take area.capacity (drop area.gates bytes)) in
-    let within : area.size * used area old ≤ area.size * area.capacity = mul-le-mul_left area.size (some old) in
+    let within : area.size * used area old ≤ area.size * area.capacity = mul-le-mul_left area.size (used_within area old) in
     ap (λ (k : ℕ). extent area.slots (area.size * k) new) same ∙ extent-fewer area.slots (area.size * used area old) (area.size * area.capacity) new old within slots
 
+-- so a change apart from both keeps them
 pub keeps_by : (area : Area) (old new : List ℕ) → extent area.gates area.capacity new ≡ extent area.gates area.capacity old
     → extent area.slots (area.size * area.capacity) new ≡ extent area.slots (area.size * area.capacity) old
     → Elsewhere area old new → length old ≤ length new → Keeps area old new
 keeps_by area old new gates slots apart le = record { used = used_by_gates area old new gates; held = held_by_slots area old new gates slots; elsewhere = apart; no_shorter = le }
+
+-- zero bytes written as a whole
+pub zeroes_written : (from to : ℕ) (old : List ℕ) → from ≤ length old → from ≤ to → Zeroes from to old (written from (replicate (to - from) 0) old)
+zeroes_written from to old within le =
+    let piece : List ℕ = replicate (to - from) 0 in
+    let long : length piece ≡ to - from = length-replicate (to - from) 0 in
+    let new = written from piece old in record {
+      zeros = ap (λ (k : ℕ). extent from k new) (sym long) ∙ extent-written from piece old within;
+      elsewhere = λ place len apart. (torn_whole from piece old within).elsewhere place len (subst (λ (k : ℕ). Apart from k place len) (sym long) apart);
+      long = omega (arith, length-written from piece old within, long);
+    }
+
+-- where zero bytes stand, no gate is open
+pub used-zeroes : (area : Area) (from to : ℕ) (old new : List ℕ) → from ≤ area.gates → area.gates + area.capacity ≤ to → Zeroes from to old new → used area new ≡ 0
+used-zeroes area from to old new le end zeroes =
+    let k = area.gates - from in
+    let place : from + k ≡ area.gates = omega (arith, le) in
+    let rest : List ℕ = replicate (to - from - k) 0 in
+    let gates : extent area.gates area.capacity new ≡ replicate area.capacity 0 =
+    ap (λ (g : ℕ). extent g area.capacity new) (sym place)
+    ∙ sym (extent-extent k area.capacity from (to - from) new (omega (arith, le, end)))
+    ∙ ap (λ (l : List ℕ). extent k area.capacity l) zeroes.zeros
+    ∙ ap (λ (l : List ℕ). take area.capacity l) (drop-replicate k (to - from) 0)
+    ∙ take-replicate area.capacity (to - from - k) 0 (omega (arith, le, end)) in
+    ap used_of gates ∙ used_of-replicate area.capacity
+
+-- the bytes of some of the slots used, as a read gives them
+pub extent-held : (area : Area) (slot n : ℕ) (bytes : List ℕ) → slot + n ≤ used area bytes
+    → extent (area.size * slot) (area.size * n) (held area bytes) ≡ extent (place_of area slot) (area.size * n) bytes
+extent-held area slot n bytes within =
+    let le : area.size * (slot + n) ≤ area.size * used area bytes = mul-le-mul_left area.size within in
+    extent-extent (area.size * slot) (area.size * n) area.slots (area.size * used area bytes) bytes (omega (arith, le))
+
+-- where the bytes go on to the next slot's place, those used are there whole
+pub length-held : (area : Area) (bytes : List ℕ) → place_of area (used area bytes) ≤ length bytes → length (held area bytes) ≡ area.size * used area bytes
+length-held area bytes reaches = length-extent area.slots (area.size * used area bytes) bytes reaches

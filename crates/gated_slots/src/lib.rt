@@ -4,7 +4,13 @@
 //! slots, or the old ones and the whole batch, and after Ok the latter. No call allocates.
 #![tactic(auto)]
 
+mod header;
+mod reading;
 mod slots;
 mod writing;
 
+pub use header::{header_close, header_open, header_read};
 pub use slots::{AppendFault, Slots};
+
+#[cfg(test)]
+mod tests;

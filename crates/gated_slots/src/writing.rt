@@ -1,10 +1,11 @@
 // Writes by which a stop leaves all of a batch or nothing: the gate is written last, after a sync of its own.
-ghost use Rattle.std.specs.Prelude.{◌≡◌, ◌+◌, ◌-◌, ◌*◌, ◌<◌, ◌≤◌, length, replicate, IsTrue, OnOk, [], ◌∷◌};
+ghost use Rattle.std.specs.Prelude.{◌≡◌, ◌+◌, ◌-◌, ◌*◌, ◌<◌, ◌≤◌, min, length, replicate, IsTrue, OnOk, [], ◌∷◌};
 ghost use Rattle.site_disk.specs.Bytes.{written, Torn};
 ghost use Rattle.site_disk.specs.Causes.{HasCause};
 ghost use Rattle.site_disk.specs.Images.{Leaves, OnlyAfter, Unchanged};
 ghost use Rattle.site_disk.specs.Ledger.{MayUse, Uses};
-ghost use Rattle.gated_slots.specs.Writes.{with_batch, MayAdd};
+ghost use Rattle.gated_slots.specs.Slots.{Zeroes};
+ghost use Rattle.gated_slots.specs.Writes.{filled, with_batch, MayAdd};
 
 use site_disk::{Disk, Era, Failed};
 
@@ -24,7 +25,8 @@ fn put_zeros<D: Disk>(
     requires order { from ≤ to }
     requires some { 0 < length zeros.now }
     requires zeros { zeros.now ≡ replicate (length zeros.now) 0 }
-    ensures bytes { IsTrue D.tells → OnOk result (D.bytes disk.new ≡ written from (replicate (to - from) 0) (D.bytes disk.old)) }
+    ensures bytes { IsTrue D.tells
+        → OnOk result (D.bytes disk.new ≡ written from (replicate (to - from) 0) (D.bytes disk.old)) }
     ensures crash { Leaves era.now.number (Torn from (to - from)) (D.image disk.old) (D.image disk.new) }
     ensures ledger { Uses era.now 0 (to - from) (D.ledger disk.old) (D.ledger disk.new) }
     ensures cause { HasCause (D.ledger disk.old).faults (D.ledger disk.new).faults result }
@@ -41,10 +43,13 @@ fn put_zeros<D: Disk>(
 // Fills with zero bytes up to a place that the disk doesn't reach.
 fn reach<D: Disk>(disk: &mut D, era: &Era, place: u64) -> Result<(), Failed>
     requires era { MayUse era.now (D.ledger disk.old) }
+    ensures filled { IsTrue D.tells → OnOk result (D.bytes disk.new ≡ filled place (D.bytes disk.old)) }
     ensures reaches { IsTrue D.tells → OnOk result (place ≤ length (D.bytes disk.new)) }
     ensures bytes { IsTrue D.tells → place ≤ length (D.bytes disk.old) → D.bytes disk.new ≡ D.bytes disk.old }
-    ensures images { IsTrue D.tells → place ≤ length (D.bytes disk.old) → Unchanged (D.image disk.old) (D.image disk.new) }
-    ensures nothing { IsTrue D.tells → place ≤ length (D.bytes disk.old) → Uses era.now 0 0 (D.ledger disk.old) (D.ledger disk.new) }
+    ensures images { IsTrue D.tells → place ≤ length (D.bytes disk.old)
+        → Unchanged (D.image disk.old) (D.image disk.new) }
+    ensures nothing { IsTrue D.tells → place ≤ length (D.bytes disk.old)
+        → Uses era.now 0 0 (D.ledger disk.old) (D.ledger disk.new) }
     ensures ledger { Uses era.now 0 place (D.ledger disk.old) (D.ledger disk.new) }
     ensures cause { HasCause (D.ledger disk.old).faults (D.ledger disk.new).faults result }
 {
@@ -60,7 +65,8 @@ fn put<D: Disk>(disk: &mut D, era: &Era, at: u64, piece: &[u8], sure: bool) -> R
     requires era { MayUse era.now (D.ledger disk.old) }
     requires within { IsTrue D.tells → at ≤ length (D.bytes disk.old) }
     ensures bytes { IsTrue D.tells → OnOk result (D.bytes disk.new ≡ written at piece.now (D.bytes disk.old)) }
-    ensures durable { IsTrue D.tells → IsTrue sure → OnOk result (OnlyAfter era.now.number (D.bytes disk.new) (D.image disk.new)) }
+    ensures durable { IsTrue D.tells → IsTrue sure
+        → OnOk result (OnlyAfter era.now.number (D.bytes disk.new) (D.image disk.new)) }
     ensures crash { Leaves era.now.number (Torn at (length piece.now)) (D.image disk.old) (D.image disk.new) }
     ensures ledger { Uses era.now 0 (length piece.now) (D.ledger disk.old) (D.ledger disk.new) }
     ensures cause { HasCause (D.ledger disk.old).faults (D.ledger disk.new).faults result }
@@ -80,9 +86,12 @@ fn put_batch<D: Disk>(
     requires era { MayUse era.now (D.ledger disk.old) }
     requires within { IsTrue D.tells → at ≤ length (D.bytes disk.old) }
     requires gate { gate ≤ at }
-    ensures bytes { IsTrue D.tells → OnOk result (D.bytes disk.new ≡ with_batch at batch.now gate (D.bytes disk.old)) }
-    ensures durable { IsTrue D.tells → OnOk result (OnlyAfter era.now.number (D.bytes disk.new) (D.image disk.new)) }
-    ensures crash { IsTrue D.tells → Leaves era.now.number (MayAdd at batch.now gate) (D.image disk.old) (D.image disk.new) }
+    ensures bytes { IsTrue D.tells
+        → OnOk result (D.bytes disk.new ≡ with_batch at batch.now gate (D.bytes disk.old)) }
+    ensures durable { IsTrue D.tells
+        → OnOk result (OnlyAfter era.now.number (D.bytes disk.new) (D.image disk.new)) }
+    ensures crash { IsTrue D.tells
+        → Leaves era.now.number (MayAdd at batch.now gate) (D.image disk.old) (D.image disk.new) }
     ensures ledger { Uses era.now 0 (length batch.now + 1) (D.ledger disk.old) (D.ledger disk.new) }
     ensures cause { HasCause (D.ledger disk.old).faults (D.ledger disk.new).faults result }
 {
@@ -100,14 +109,39 @@ pub(crate) fn add_batch<D: Disk>(
 ) -> Result<(), Failed>
     requires era { MayUse era.now (D.ledger disk.old) }
     requires gate { gate ≤ at }
-    ensures bytes { IsTrue D.tells → at ≤ length (D.bytes disk.old) → OnOk result (D.bytes disk.new ≡ with_batch at batch.now gate (D.bytes disk.old)) }
+    ensures bytes { IsTrue D.tells
+        → OnOk result (D.bytes disk.new ≡ with_batch at batch.now gate (filled at (D.bytes disk.old))) }
     ensures reaches { IsTrue D.tells → OnOk result (at + length batch.now ≤ length (D.bytes disk.new)) }
-    ensures durable { IsTrue D.tells → OnOk result (OnlyAfter era.now.number (D.bytes disk.new) (D.image disk.new)) }
-    ensures crash { IsTrue D.tells → at ≤ length (D.bytes disk.old) → Leaves era.now.number (MayAdd at batch.now gate) (D.image disk.old) (D.image disk.new) }
+    ensures durable { IsTrue D.tells
+        → OnOk result (OnlyAfter era.now.number (D.bytes disk.new) (D.image disk.new)) }
+    ensures crash { IsTrue D.tells → at ≤ length (D.bytes disk.old)
+        → Leaves era.now.number (MayAdd at batch.now gate) (D.image disk.old) (D.image disk.new) }
     ensures ledger { Uses era.now 0 (at + length batch.now + 1) (D.ledger disk.old) (D.ledger disk.new) }
-    ensures bound { IsTrue D.tells → at ≤ length (D.bytes disk.old) → (D.ledger disk.new).written ≤ (D.ledger disk.old).written + length batch.now + 1 }
+    ensures bound { IsTrue D.tells → at ≤ length (D.bytes disk.old)
+        → (D.ledger disk.new).written ≤ (D.ledger disk.old).written + length batch.now + 1 }
     ensures cause { HasCause (D.ledger disk.old).faults (D.ledger disk.new).faults result }
 {
     reach(disk, era, at)?;
     put_batch(disk, era, at, batch, gate)
+}
+
+/// Zero bytes from a place on, or from the disk's end where that is before it, up to another place, and a sync.
+pub(crate) fn zero_up_to<D: Disk>(disk: &mut D, era: &Era, from: u64, to: u64) -> Result<(), Failed>
+    requires era { MayUse era.now (D.ledger disk.old) }
+    requires order { from ≤ to }
+    ensures zeros { IsTrue D.tells
+        → OnOk result (Zeroes (min from (length (D.bytes disk.old))) to (D.bytes disk.old) (D.bytes disk.new)) }
+    ensures durable { IsTrue D.tells
+        → OnOk result (OnlyAfter era.now.number (D.bytes disk.new) (D.image disk.new)) }
+    ensures crash { IsTrue D.tells
+        → let first = min from (length (D.bytes disk.old)) in Leaves era.now.number (Torn first (to - first))
+        (D.image disk.old) (D.image disk.new) }
+    ensures ledger { Uses era.now 0 to (D.ledger disk.old) (D.ledger disk.new) }
+    ensures bound { IsTrue D.tells → from ≤ length (D.bytes disk.old)
+        → (D.ledger disk.new).written ≤ (D.ledger disk.old).written + (to - from) }
+    ensures cause { HasCause (D.ledger disk.old).faults (D.ledger disk.new).faults result }
+{
+    let len = disk.len()?;
+    put_zeros(disk, era, from.min(len), to, &ZEROS)?;
+    disk.sync(era)
 }

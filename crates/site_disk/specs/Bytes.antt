@@ -9,6 +9,10 @@ extent at n bytes = take n (drop at bytes)
 abbrev pub written : ℕ → List ℕ → List ℕ → List ℕ
 written at piece bytes = take at bytes ++ piece ++ drop (at + length piece) bytes
 
+-- a write that failed: nothing was written, or a front of the piece
+abbrev pub MayWrite : ℕ → List ℕ → List ℕ → List ℕ → Type 0
+MayWrite at front old new = (new ≡ old) ⊎ (new ≡ written at front old)
+
 -- two ranges have no place in common
 abbrev pub Apart : ℕ → ℕ → ℕ → ℕ → Type 0
 Apart at n from len = (from + len ≤ at) ⊎ (at + n ≤ from)

@@ -1,8 +1,8 @@
 -- Laws of extents, writes and torn writes, for the layers above.
-use Rattle.std.specs.Prelude.{◌≡◌, ℕ, ◌+◌, ◌-◌, ◌≤◌, max, List, ◌++◌, length, take, drop, refl}
+use Rattle.std.specs.Prelude.{◌≡◌, ℕ, ◌+◌, ◌-◌, ◌≤◌, max, List, [], ◌++◌, length, take, drop, refl}
 use mathlib.Core.Logic.{inl, inr}
-use Rattle.std.proofs.Common.{arith, ap, sym, ◌∙◌, ⊎_elim, append_assoc, length-append, length-drop}
-use Rattle.std.proofs.lemmas.List.{drop-take, take-take, drop_at, drop-drop, take_at, length-take-le}
+use Rattle.std.proofs.Common.{arith, ap, sym, ◌∙◌, ⊎_elim, append_assoc, length-append, length-drop, add-zero}
+use Rattle.std.proofs.lemmas.List.{append-nil, take-append-drop, drop-take, take-take, drop_at, drop-drop, take_at, length-take-le}
 use Rattle.site_disk.specs.Bytes.{extent, written, Torn}
 
 -- a range is decided by the bytes up to its end
@@ -17,6 +17,12 @@ extent-same_front from len n xs ys le same =
 
 pub drop_past : (n k : ℕ) (xs ys : List ℕ) → length xs ≡ n → drop (n + k) (xs ++ ys) ≡ drop k ys
 drop_past n k xs ys is = sym (drop-drop k n (xs ++ ys)) ∙ ap (λ (l : List ℕ). drop k l) (drop_at xs ys n is)
+
+-- a write of no bytes
+pub written-nothing : (at : ℕ) (bytes : List ℕ) → written at [] bytes ≡ bytes
+written-nothing at bytes =
+    ap (λ (n : ℕ). take at bytes ++ [] ++ drop n bytes) (add-zero at)
+    ∙ ap (λ (l : List ℕ). l ++ drop at bytes) (append-nil (take at bytes)) ∙ take-append-drop at bytes
 
 module _ (at : ℕ) (piece old : List ℕ) (within : at ≤ length old) where
   length-front : length (take at old ++ piece) ≡ at + length piece

@@ -16,6 +16,10 @@ pub record Ledger : Type 0 where
   pub synced : ℕ
   pub key : ℕ
 
+-- of a disk that was made in an era, with nothing counted yet
+abbrev pub new_ledger : ℕ → ℕ → Ledger
+new_ledger era key = record { faults = 0; read = 0; written = 0; last = era; synced = era; key = key }
+
 -- a count that stands still at the end of a u64
 abbrev pub counted : ℕ → ℕ → ℕ
 counted before n = min (before + n) (2 ^ 64 - 1)

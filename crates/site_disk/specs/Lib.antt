@@ -5,3 +5,12 @@ pub mod ImagesLaws
 pub mod Ledger
 pub mod Causes
 pub mod Streams
+pub mod Plans
+pub mod DiskPlans
+pub mod MemStreams
+pub mod Past
+pub mod PastLaws
+pub mod Recorded
+pub mod Recording
+pub mod FaultCounts
+pub mod MemDisk

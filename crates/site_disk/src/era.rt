@@ -34,6 +34,13 @@ impl Era {
         self.number
     }
 
+    // The key, for the devices of this crate.
+    pub(crate) fn key(&self) -> u64
+        ensures { result ≡ self.now.key }
+    {
+        self.key
+    }
+
     /// Begins the next era, of the same disks.
     pub fn next(&mut self)
         requires { self.old.number < 2 ^ 64 - 1 }

@@ -2,7 +2,8 @@
 //!
 //! A crash falls in one era, and leaves of each disk one image of that era: each range written since the last sync
 //! may then hold any bytes. After a sync that succeeds, images of later eras are what a read gives until the next
-//! write. A call answers `Failed` only where the count of faults rose.
+//! write. A call answers `Failed` only where the count of faults rose. A disk, a source and a sink in memory keep all
+//! of this, and fail where they are told to or memory runs out.
 #![tactic(auto)]
 
 mod disk;
@@ -15,5 +16,6 @@ mod syncing;
 pub use disk::Disk;
 pub use era::Era;
 pub use faults::{Failed, OutOfMemory};
+pub use memory::{Choice, MemDisk, MemSink, MemSource};
 pub use streams::{Sink, Source};
 pub use syncing::write_and_sync;

@@ -1,3 +1,7 @@
 pub mod Heads
 pub mod Headers
 pub mod Views
+pub mod Kinds
+pub mod Parts
+pub mod SpaceLaws
+pub mod HeaderLaws

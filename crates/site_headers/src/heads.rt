@@ -2,7 +2,7 @@
 use bsa_descriptor::Text;
 
 /// A dbspace: its name, and its number of pages of 4,096 bytes.
-#[derive(Debug, Drop)]
+#[derive(Clone, Debug, PartialEq, Eq, Drop)]
 pub struct SpaceHead {
     pub name: Text<19>,
     pub pages: u32,

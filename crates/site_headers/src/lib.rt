@@ -1,6 +1,23 @@
-//! The header page with which every disk of a site begins, exact both ways, and what it fixes of the site.
+//! The header page of 4,096 bytes with which every disk of a site begins, and what the catalogue's fixes of the site.
+//!
+//! A page is read as a header exactly where it spells one, each byte of it, whatever byte but 0 its gate has. The
+//! catalogue's header is that of one site at most. Writing takes no memory, and reading fails only by want of it.
 #![tactic(auto)]
 
+mod catalogue;
+mod fields;
+mod front;
 mod heads;
+mod kinds;
+mod laws;
+mod log;
+mod names;
+mod sizes;
+mod spaces;
+#[cfg(test)]
+mod tests;
 
+pub use catalogue::{read_catalogue_header, write_catalogue_header};
 pub use heads::{SiteHead, SpaceHead};
+pub use laws::{header_fills_its_page, header_is_the_first_page, one_catalogue_header};
+pub use log::{is_log_header, write_log_header};

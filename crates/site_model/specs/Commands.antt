@@ -1,6 +1,5 @@
 -- What the clauses of a command say: where a stop may leave it, what it did at its end, what it read and printed.
-use Rattle.std.specs.Prelude.{◌≡◌, ◌⊎◌, ℕ, ◌+◌, ◌<◌, ◌≤◌, List, [], ◌∷◌, ◌++◌, length, Option, Some, None}
-use Rattle.onbar_grammar.specs.Script.{Raw, spelled, raw_lines, line_fault, line_of}
+use Rattle.std.specs.Prelude.{◌≡◌, ◌⊎◌, ℕ, ◌+◌, ◌≤◌, List, [], ◌∷◌, ◌++◌, Some, None}
 use Rattle.onbar_grammar.specs.Words.{refused_word}
 use Rattle.site_model.specs.declared.disk_name.DiskName.{DiskName}
 use Rattle.site_model.specs.declared.status.Status.{Status}
@@ -8,7 +7,7 @@ use Rattle.site_model.specs.declared.status.Status.TheVariants.{Ok as Done, OutO
 use Rattle.site_model.specs.Worlds.{World, IsFit}
 use Rattle.site_model.specs.Layouts.{Shows, StandFor}
 use Rattle.site_model.specs.Runs.{Run}
-use Rattle.site_model.specs.Steps.{ImagesOf, Frame, StandsAmong, ShowsOrRests, Passes}
+use Rattle.site_model.specs.Steps.{ImagesOf, Frame, StandsAmong}
 
 -- a world is one of a list
 abbrev pub IsAmong : List World → World → Type 0

@@ -1,7 +1,11 @@
 pub mod Worlds
+pub mod OrderLaws
 pub mod Layouts
 pub mod Texts
 pub mod Runs
+pub mod RunsLaws
 pub mod Steps
 pub mod Commands
 pub mod Stops
+pub mod Spelled
+pub mod LogLaws

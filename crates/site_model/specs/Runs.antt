@@ -1,6 +1,6 @@
 -- What a command makes of a world: the worlds that it passes, the last one, the status and the text.
-use Rattle.std.specs.Prelude.{◌≡◌, ℕ, suc, ◌+◌, ◌<◌, ◌≤◌, max, List, [], ◌∷◌, ◌++◌, length, map, Bool, true, false, ◌&&◌, ◌||◌, ◌==◌, nat_lt, if◌then◌else◌, Option, None, Some, Result, Ok, Err}
-use Rattle.log_history.specs.History.{Patch, Entry, History, begin, write, commit, abort, reset}
+use Rattle.std.specs.Prelude.{ℕ, ◌+◌, max, List, [], ◌∷◌, ◌++◌, length, map, Bool, true, false, ◌||◌, ◌==◌, nat_lt, if◌then◌else◌, Option, None, Some, Result, Ok, Err}
+use Rattle.log_history.specs.History.{Entry, History, commit, reset}
 use Rattle.log_history.specs.Transactions.{Table, table_of, after, refusal, last_time, Refusal, already_open, not_open, too_many_open}
 use Rattle.onbar_grammar.specs.declared.Why.{Why}
 use Rattle.onbar_grammar.specs.declared.Why.TheVariants.{AlreadyOpen, NotOpen, TooManyOpen}
@@ -10,25 +10,33 @@ use Rattle.site_model.specs.declared.status.Status.{Status}
 use Rattle.site_model.specs.declared.status.Status.TheVariants.{Ok as Done, Usage, ScriptFault, NotFormatted, LogFull}
 use Rattle.site_model.specs.declared.status.LogFull.TheVariants.{Positions}
 use Rattle.site_model.specs.Worlds.{Site, World, unformatted, formatted, with_history}
-use Rattle.site_model.specs.Texts.{extension_text, ok_text, usage_text, script_fault_text, not_formatted_text, no_position_text}
+use Rattle.site_model.specs.Texts.{extension_text, status_text}
 
 -- The log takes 65,536 records.
 abbrev pub log_capacity : ℕ
 log_capacity = 65536
 
--- Where a run of `-T` stands between two lines: the bytes and lines of the script behind it, the records that stand, those
--- collected since, the transactions open and the last time after both, and the logs after each batch so far.
+-- what a run has collected since the last batch: its records, the transactions open after them, the time of the last Commit
+-- or Reset of the log and of these records
+pub record Collected : Type 0 where
+  pub batch : List Entry
+  pub table : Table
+  pub time : ℕ
+
+-- where a run of `-T` stands between two lines: the bytes and lines of the script behind it, the records that stand, those
+-- collected since, and the logs after each batch so far
 pub record Place : Type 0 where
   pub begun : ℕ
   pub lines : ℕ
   pub history : History
-  pub batch : List Entry
-  pub table : Table
-  pub time : ℕ
+  pub collected : Collected
   pub passed : List History
 
+abbrev pub first_collected : History → Collected
+first_collected history = record { batch = []; table = table_of history; time = last_time history }
+
 abbrev pub first_place : History → Place
-first_place history = record { begun = 0; lines = 0; history = history; batch = []; table = table_of history; time = last_time history; passed = [] }
+first_place history = record { begun = 0; lines = 0; history = history; collected = first_collected history; passed = [] }
 
 -- how a run ends: the logs after each batch, the last log, and the status
 pub record Ending : Type 0 where
@@ -36,20 +44,25 @@ pub record Ending : Type 0 where
   pub last : History
   pub status : Status
 
--- the batch is appended, where there is one and it fits
+-- the batch is appended
 abbrev pub appended : Place → Place
-appended place = record place { history = place.history ++ place.batch; batch = []; passed = place.passed ++ (place.history ++ place.batch) ∷ [] }
+appended place =
+    let history = place.history ++ place.collected.batch in
+    record place { history = history; collected = record place.collected { batch = [] }; passed = place.passed ++ history ∷ [] }
 
 abbrev pub is_full : Place → Bool
-is_full place = nat_lt log_capacity (length place.history + length place.batch)
+is_full place = nat_lt log_capacity (length place.history + length place.collected.batch)
+
+abbrev pub ends_at : Status → Place → Ending
+ends_at status place = record { passed = place.passed; last = place.history; status = status }
 
 -- the run ends here, once its batch is appended; where that is refused, the refusal is the status
 abbrev pub ended : Status → Place → Ending
 ended status place =
-    if length place.batch == 0 then record { passed = place.passed; last = place.history; status = status }
-    else (if is_full place then record { passed = place.passed; last = place.history; status = LogFull (Positions (length place.history)) }
-    else (let p = appended place in record { passed = p.passed; last = p.history; status = status }))
+    if length place.collected.batch == 0 then ends_at status place
+    else (if is_full place then ends_at (LogFull (Positions (length place.history))) place else ends_at status (appended place))
 
+-- a Commit or an Abort ends a batch
 abbrev pub ends_batch : Line → Bool
 ends_batch (begin_line txn) = false
 ends_batch (write_line txn patch) = false
@@ -67,40 +80,51 @@ time_after time (commit txn at) = at
 time_after time (reset restore target at) = at
 time_after time entry = time
 
--- a line's record joins the batch
-abbrev pub collected : Place → Entry → Place
-collected place entry = record place {
-  batch = place.batch ++ entry ∷ [];
-  table = after (length place.history + length place.batch + 1) entry place.table;
-  time = time_after place.time entry;
-}
+-- what a line does: nothing, or its record joins the batch, which it may end, or it is refused
+pub data Taken : Type 0 where
+  nothing : Taken
+  joined : (collected : Collected) (ends : Bool) → Taken
+  bad : (why : Why) → Taken
+
+-- A batch ends after a Commit or an Abort, and after its 32nd line.
+abbrev pub join : ℕ → Line → Entry → Collected → Taken
+join end line entry c =
+    let batch = c.batch ++ entry ∷ [] in
+    joined (record { batch = batch; table = after (end + length c.batch + 1) entry c.table; time = time_after c.time entry }) (ends_batch line || length batch == 32)
+
+abbrev pub unless_refused : Option Refusal → Taken → Taken
+unless_refused None taken = taken
+unless_refused (Some refused) taken = bad (why_of refused)
+
+-- behind a log of so many records; a Commit's time is the larger of the moment and the last such time
+abbrev pub take_meaning : ℕ → ℕ → Collected → Result (Option Line) Why → Taken
+take_meaning moment end c (Err why) = bad why
+take_meaning moment end c (Ok None) = nothing
+take_meaning moment end c (Ok (Some line)) =
+    let entry = entry_of_line (max moment c.time) line in unless_refused (refusal entry c.table) (join end line entry c)
+
+abbrev pub take_text : List Space → ℕ → ℕ → Collected → List ℕ → Taken
+take_text spaces moment end c text = take_meaning moment end c (line_of spaces text)
 
 -- how a run goes on behind a line, or ends at it
 pub data Outcome : Type 0 where
   goes_on : (place : Place) → Outcome
   ends : (ending : Ending) → Outcome
 
--- A batch ends after a Commit or an Abort, and after its 32nd line.
-abbrev pub after_batch : Line → Place → Outcome
-after_batch line place =
-    if ends_batch line || length place.batch == 32
-    then (if is_full place then ends (ended Done place) else goes_on (appended place))
-    else goes_on place
+-- a batch that is whole is appended at once
+abbrev pub after_batch : Place → Outcome
+after_batch place = if is_full place then ends (ended Done place) else goes_on (appended place)
 
-abbrev pub after_order : Place → Line → Entry → Option Refusal → Outcome
-after_order place line entry None = after_batch line (collected place entry)
-after_order place line entry (Some refused) = ends (ended (ScriptFault place.lines (why_of refused)) place)
-
-abbrev pub after_line : ℕ → Place → Result (Option Line) Why → Outcome
-after_line moment place (Err why) = ends (ended (ScriptFault place.lines why) place)
-after_line moment place (Ok None) = goes_on place
-after_line moment place (Ok (Some line)) =
-    let entry = entry_of_line (max moment place.time) line in after_order place line entry (refusal entry place.table)
+abbrev pub after_taken : Place → Taken → Outcome
+after_taken place nothing = goes_on place
+after_taken place (joined collected is_whole) =
+    let next = record place { collected = collected } in if is_whole then after_batch next else goes_on next
+after_taken place (bad why) = ends (ended (ScriptFault place.lines why) place)
 
 abbrev pub after_fault : List Space → ℕ → Place → Raw → Option Why → Outcome
 after_fault spaces moment place line (Some why) = ends (ended (ScriptFault place.lines why) place)
 after_fault spaces moment place line None =
-    after_line moment (record place { begun = place.begun + length (spelled line) }) (line_of spaces line.text)
+    after_taken (record place { begun = place.begun + length (spelled line) }) (take_text spaces moment (length place.history) place.collected line.text)
 
 -- one line of the script, counted from 1
 abbrev pub step_line : List Space → ℕ → Place → Raw → Outcome
@@ -124,16 +148,8 @@ pub record Run : Type 0 where
   pub text : List ℕ
 
 -- a refusal before any work
-abbrev pub refused : World → Status → List ℕ → Run
-refused world status text = record { passed = []; last = world; status = status; text = text }
-
-abbrev pub status_text : Status → List ℕ
-status_text Done = ok_text
-status_text (Usage n) = usage_text n
-status_text (ScriptFault n why) = script_fault_text n why
-status_text NotFormatted = not_formatted_text
-status_text (LogFull why) = no_position_text
-status_text status = []
+abbrev pub refused : World → Status → Run
+refused world status = record { passed = []; last = world; status = status; text = status_text status }
 
 abbrev pub run_of : Site → Ending → Run
 run_of site ending = record {
@@ -148,8 +164,8 @@ abbrev pub transactions : ℕ → Site → List ℕ → Run
 transactions moment site script = run_of site (run_lines site.head.spaces moment (raw_lines script) (first_place site.history))
 
 abbrev pub run_form : ℕ → World → List ℕ → Option ℕ → Run
-run_form moment world script (Some n) = refused world (Usage n) (usage_text n)
-run_form moment unformatted script None = refused unformatted NotFormatted not_formatted_text
+run_form moment world script (Some n) = refused world (Usage n)
+run_form moment unformatted script None = refused unformatted NotFormatted
 run_form moment (formatted site) script None = transactions moment site script
 
 -- what the words make of a world, at a moment and with a script

@@ -82,7 +82,6 @@ pub record MovesOne {W : Type 0} (frame : Frame W) (who : DiskName) (moves : Dis
 module _ {W : Type 0} (frame : Frame W) (now e : ℕ) (who : DiskName) (moves : DiskName → Bool) (step : List ℕ → List ℕ → Type 0)
     (mid new : ImagesOf) (world next : W) (way : Underway frame now mid world) (is_new : now < e)
     (move : MovesOne frame who moves e step mid new world next) where
-
   -- before the call's era nothing changes
   unchanged : (f : ℕ) (name : DiskName) (bytes : List ℕ) → f < e → new f name bytes → mid f name bytes
   unchanged f name bytes lt image = elim (cases_Bool (moves name)) [

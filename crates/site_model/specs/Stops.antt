@@ -99,10 +99,19 @@ promise scene passes sound contents counts = record {
         × ((name : DiskName) → Shows name world (choice name) ⊎ (NotSynced scene f name × ShowedAtEntry scene name (choice name)))
     stops f lt choice images = elim (cases_lt (scene.entry + 1) f) [
       | inl behind ↦
-          let stands = passes.later f behind choice images in
-          (stands.0, stands.1, λ name. ⊎_elim (λ shows. inl shows)
-              (λ rests. inr (inr rests.0, showed name (choice name) (counts f name (choice name) lt rests.1))) (stands.2 name))
-      | inr within ↦
-          (scene.begin, inl refl, λ name. inr (inl within, showed name (choice name)
-              (counts f name (choice name) lt (passes.earlier f name (choice name) within (images name)))))
+          let stands = passes.later f behind choice images in (
+            stands.0,
+            stands.1,
+            λ name. ⊎_elim (λ shows. inl shows)
+                (λ rests. inr (inr rests.0, showed name (choice name) (counts f name (choice name) lt rests.1))) (stands.2 name),
+          )
+      | inr within ↦ (
+        scene.begin,
+        inl refl,
+        λ name. inr (
+          inl within,
+          showed name (choice name)
+              (counts f name (choice name) lt (passes.earlier f name (choice name) within (images name))),
+        ),
+      )
     ]

@@ -1,9 +1,15 @@
 -- The texts that `onbar` prints. Every line ends with a line feed; numbers are decimal.
-use Rattle.std.specs.Prelude.{ℕ, ◌-◌, List, [], ◌∷◌, ◌++◌, length, drop, count_by, Bool, true, false, codes}
+use Rattle.std.specs.Prelude.{ℕ, ◌+◌, ◌/◌, ◌%◌, List, [], ◌∷◌, ◌++◌, length, drop, count_by, Bool, true, false, codes}
 use Rattle.std.specs.Fmt.{decimal}
-use Rattle.log_history.specs.History.{Entry, History, begin, write, commit, abort, reset}
+use Rattle.log_history.specs.History.{Entry, History, commit}
 use Rattle.onbar_grammar.specs.declared.Why.{Why}
 use Rattle.onbar_grammar.specs.declared.Why.TheVariants.{Words, NoSpace, NoPage, Range, AlreadyOpen, NotOpen, TooManyOpen, TooLong, ScriptTooLong, OutOfMemory as NoMemory}
+use Rattle.site_model.specs.declared.disk_name.DiskName.{DiskName}
+use Rattle.site_model.specs.declared.disk_name.DiskName.TheVariants.{Cat, Spare, Boot, Log, Volume, Chunk}
+use Rattle.site_model.specs.declared.status.LogFull.{LogFull}
+use Rattle.site_model.specs.declared.status.LogFull.TheVariants.{NotBackedUp, Needed, Positions}
+use Rattle.site_model.specs.declared.status.Status.{Status}
+use Rattle.site_model.specs.declared.status.Status.TheVariants.{Ok as Done, Usage, ScriptFault, NotFormatted, AlreadyFormatted, BadRecord, LogLost, LogFull as Full}
 
 abbrev pub line : List ℕ → List ℕ
 line text = text ++ 10 ∷ []
@@ -14,7 +20,7 @@ is_commit_entry entry = false
 
 -- of records that stand: how many, how many of them Commits, and the end of the log
 abbrev pub counts_text : ℕ → ℕ → ℕ → List ℕ
-counts_text lines commits end = line (codes "lines " ++ decimal lines ++ codes " commits " ++ decimal commits ++ codes " end " ++ decimal end)
+counts_text lines commits end = codes "lines " ++ (decimal lines ++ (codes " commits " ++ (decimal commits ++ (codes " end " ++ (decimal end ++ 10 ∷ [])))))
 
 -- what `-T` prints of a log that was extended
 abbrev pub extension_text : History → History → List ℕ
@@ -33,17 +39,35 @@ why_text TooLong = codes "line too long"
 why_text ScriptTooLong = codes "script too long"
 why_text NoMemory = []
 
-abbrev pub ok_text : List ℕ
-ok_text = line (codes "ok")
+-- a number below 100 in two digits
+abbrev pub two_digits : ℕ → List ℕ
+two_digits n = (48 + n / 10) ∷ (48 + n % 10) ∷ []
 
-abbrev pub usage_text : ℕ → List ℕ
-usage_text n = line (codes "usage at word " ++ decimal n)
+-- the file that stands for a disk
+abbrev pub disk_text : DiskName → List ℕ
+disk_text Cat = codes "cat"
+disk_text Spare = codes "spare"
+disk_text Boot = codes "boot"
+disk_text Log = codes "log"
+disk_text (Volume n) = codes "vol" ++ two_digits n
+disk_text (Chunk n) = codes "chunk" ++ two_digits n
 
-abbrev pub script_fault_text : ℕ → Why → List ℕ
-script_fault_text n why = line (codes "script fault at line " ++ decimal n ++ codes ": " ++ why_text why)
+abbrev pub bad_record_text : DiskName → ℕ → List ℕ
+bad_record_text disk slot = codes "bad record in " ++ (disk_text disk ++ (codes " at slot " ++ (decimal slot ++ 10 ∷ [])))
 
-abbrev pub not_formatted_text : List ℕ
-not_formatted_text = line (codes "not formatted")
+abbrev pub full_text : LogFull → List ℕ
+full_text (NotBackedUp file) = codes "log full: file " ++ (decimal file ++ line (codes " not backed up"))
+full_text (Needed file txn) = codes "log full: file " ++ (decimal file ++ (codes " needed by transaction " ++ (decimal txn ++ 10 ∷ [])))
+full_text (Positions end) = line (codes "log full: no position left")
 
-abbrev pub no_position_text : List ℕ
-no_position_text = line (codes "log full: no position left")
+-- the last line that a command prints; nothing at the statuses that end it as a stop does, nor yet at those that no form answers
+abbrev pub status_text : Status → List ℕ
+status_text Done = line (codes "ok")
+status_text (Usage n) = codes "usage at word " ++ (decimal n ++ 10 ∷ [])
+status_text (ScriptFault n why) = codes "script fault at line " ++ (decimal n ++ (codes ": " ++ (why_text why ++ 10 ∷ [])))
+status_text NotFormatted = line (codes "not formatted")
+status_text AlreadyFormatted = line (codes "already formatted")
+status_text (BadRecord disk slot) = bad_record_text disk slot
+status_text LogLost = line (codes "log lost")
+status_text (Full why) = full_text why
+status_text status = []

@@ -1,7 +1,7 @@
 -- The worlds of a site: what its disks stand for.
 use Rattle.std.specs.Prelude.{◌≡◌, ℕ, ◌<◌, List, slice_get, Option, Some, None, nat_lt, if◌then◌else◌}
 use Rattle.std.specs.List.{AllByRecursion}
-use Rattle.log_history.specs.History.{Patch, Entry, History, begin, write, commit, abort, reset}
+use Rattle.log_history.specs.History.{Entry, History, write}
 use Rattle.log_history.specs.Effects.{Page, page_at}
 use Rattle.log_history.specs.Transactions.{InOrder}
 use Rattle.onbar_grammar.specs.Script.{Space}

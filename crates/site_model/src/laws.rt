@@ -19,5 +19,4 @@ pub fn stops_are_listed<S: Staged>()
     requires reads { (name : DiskName) → S.scene.old S.scene.entry name (S.scene.contents name) }
     requires counts { (f : ℕ) (name : DiskName) (bytes : List ℕ) → S.scene.entry < f → S.scene.old f name bytes → S.scene.old S.scene.entry name bytes }
     ensures { KeepsPromise S.scene }
-{
-}
+{}

@@ -10,6 +10,6 @@ mod laws;
 mod status;
 
 pub use disk_name::DiskName;
-pub use laws::{Staged, stops_are_listed};
 pub use lacking::{Lacking, LackingList, What};
+pub use laws::{Staged, stops_are_listed};
 pub use status::{LogFull, Status};

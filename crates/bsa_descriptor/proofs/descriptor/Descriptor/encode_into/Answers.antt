@@ -45,6 +45,6 @@ returns-clause-descriptor c = record {
   info = c.write_text-7.ensures.text;
 }
 
-pub returns-clause-only : goal.returns-clause-only
-returns-clause-only c d is e =
+pub returns-clause-no_other : goal.returns-clause-no_other
+returns-clause-no_other c d is e =
     spelling_once c.write_zeros.new.into c.args.self.now d (omega arith) (returns-clause-descriptor c) is (returns-clause-spelled c) e

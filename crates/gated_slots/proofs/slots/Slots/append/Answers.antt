@@ -1,6 +1,6 @@
-use Rattle.std.proofs.Common.{◌≡◌, ℕ, ◌+◌, ◌%◌, ◌/◌, List, length, refl, arith, subst, sym, ap, ◌∙◌}
+use Rattle.std.proofs.Common.{◌≡◌, ℕ, ◌+◌, ◌%◌, List, length, refl, arith, subst, sym}
 use Rattle.gated_slots.specs.Slots.{SlotsView}
-use Rattle.gated_slots.proofs.Appending.{gained, crash, agrees_after}
+use Rattle.gated_slots.proofs.Appending.{gained, used_after, crash, agrees_after}
 use Rattle.gated_slots.proofs.slots.Slots.append.Goals as goal
 
 -- the batch is whole slots, said of the value as it was opened
@@ -20,13 +20,12 @@ returns-clause-crash g c = rw (← c.self.view_is) (λ tells reaches agrees.
 pub returns-clause-gained : goal.returns-clause-gained
 returns-clause-gained g c = rw (← c.self.view_is) (λ tells reaches agrees.
     gained _ c.args.batch.now c.self.invariant (whole _ _ c.args.batch.now c.self.view_is c.requires.whole) c.requires.some (omega arith) _ refl
-    (g.D.Disk.bytes c.args.disk.now) (g.D.Disk.bytes c.add_batch.new.disk) agrees.now reaches (c.in_ok-add_batch.ensures.bytes tells reaches))
+    (g.D.Disk.bytes c.args.disk.now) (g.D.Disk.bytes c.add_batch.new.disk) agrees.now reaches (c.in_ok-add_batch.ensures.bytes tells))
 
 pub returns-clause-agrees : goal.returns-clause-agrees
-returns-clause-agrees g c = rw (← c.self.view_is) (λ tells reaches agrees.
+returns-clause-agrees g c = rw (← c.self.view_is) (λ tells agrees.
     agrees_after _ c.args.era.now.number (g.D.Disk.ledger c.add_batch.new.disk).last (g.D.Disk.bytes c.add_batch.new.disk) (g.D.Disk.image c.add_batch.new.disk)
     (λ f image_of lt image. g.met.D.Disk.now_counts c.add_batch.new.disk (c.args.era.now.number + 1) f image_of (omega arith) lt image)
     (c.in_ok-add_batch.ensures.durable tells)
-    ((gained _ c.args.batch.now c.self.invariant (whole _ _ c.args.batch.now c.self.view_is c.requires.whole) c.requires.some (omega arith) _ refl
-    (g.D.Disk.bytes c.args.disk.now) (g.D.Disk.bytes c.add_batch.new.disk) agrees.now reaches (c.in_ok-add_batch.ensures.bytes tells reaches)).used
-    ∙ ap (λ (k : ℕ). k + length c.args.batch.now / c.self.inside.size) agrees.now))
+    (used_after _ c.args.batch.now c.self.invariant (whole _ _ c.args.batch.now c.self.view_is c.requires.whole) c.requires.some (omega arith) _ refl
+    (g.D.Disk.bytes c.args.disk.now) (g.D.Disk.bytes c.add_batch.new.disk) agrees.now (c.in_ok-add_batch.ensures.bytes tells)))

@@ -1,0 +1,4 @@
+pub mod Blocks
+pub mod Table
+pub mod Layout
+pub mod Placing

@@ -1,0 +1,19 @@
+//! Chains of blocks: which blocks of a volume are free, and which belong to which list.
+//!
+//! One table has a link for each block. The free blocks are a chain, in the order in which they are
+//! taken, and each list of blocks is a chain of its own: no block is in two of them, and together they
+//! are all blocks of the table. A call changes its own list and the free chain, and leaves every
+//! other list as it was. Only the making of a table and of a list's runs can run out of memory.
+#![tactic(auto)]
+
+mod lists;
+mod placing;
+mod runs;
+mod table;
+
+pub use lists::BlockList;
+pub use runs::Run;
+pub use table::{ChainFault, Chains, OutOfMemory};
+
+#[cfg(test)]
+mod tests;

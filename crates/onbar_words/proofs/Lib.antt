@@ -1,0 +1,7 @@
+pub mod CuttingLemmas
+pub mod ScriptLemmas
+pub mod NextLemmas
+pub mod TokenLemmas
+pub mod LineLemmas
+pub mod FitLemmas
+pub mod NumberLemmas

@@ -1,0 +1,7 @@
+pub mod Cutting
+pub mod Fault
+pub mod Number
+pub mod Order
+pub mod SpaceHead
+pub mod Tokens
+pub mod TxnLine

@@ -1,0 +1,22 @@
+//! The words of `onbar` and the lines of its scripts.
+//!
+//! `Lines` cuts a script into its lines however its bytes come in pieces, and answers a limit exactly where the next
+//! line passes it. `read_txn_line` and `read_words` accept exactly the grammar, and answer the first fault in its order.
+//! Only `Lines` takes memory: one buffer, at the first call.
+#![tactic(auto)]
+
+mod cutting;
+mod laws;
+mod spaces;
+#[cfg(test)]
+mod tests;
+mod tokens;
+mod txn_lines;
+mod words;
+
+pub use cutting::{LineFault, Lines};
+pub use laws::numbers_are_decimal;
+pub use onbar_grammar::Why;
+pub use site_headers::SpaceHead;
+pub use txn_lines::{TxnLine, read_txn_line};
+pub use words::{Form, Order, WordFault, read_words};

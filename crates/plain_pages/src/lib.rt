@@ -1,0 +1,14 @@
+//! The pages of a history, computed the plain and slow way.
+//!
+//! The contract of `page_of_log` is the definition itself, so the faster ways are compared with it. It takes no memory.
+#![tactic(auto)]
+
+mod live;
+mod page;
+mod replay;
+#[cfg(test)]
+mod tests;
+
+pub use live::is_live;
+pub use page::Page;
+pub use replay::page_of_log;

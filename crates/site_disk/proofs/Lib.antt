@@ -1,0 +1,5 @@
+mod DiskSteps
+mod Moving
+mod RecordedLemmas
+mod Replays
+mod Tearing

@@ -1,0 +1,54 @@
+-- A header by its front and its own bytes.
+use Rattle.std.proofs.Common.{◌≡◌, ℕ, ◌^◌, ◌<◌, List, [], ◌∷◌, ◌++◌, length, take, drop, replicate, codes, All, refl, sym, ap, ◌∙◌, subst, arith}
+use Rattle.std.specs.Int.{to_be_bytes, w16, w64}
+use Rattle.std.proofs.lemmas.List.{take-append-drop, length-drop}
+use Rattle.std.proofs.lemmas.List.Elements.{All-same, All-replicate}
+use Rattle.std.proofs.Math.Seq.{take-add}
+use Rattle.bsa_descriptor.proofs.Padding.{zeros_are_replicated}
+use Rattle.site_headers.specs.Headers.{header_tail, no_own, log_tail, HasHeader}
+use Rattle.site_headers.specs.Parts.{HasFront}
+use Rattle.site_headers.specs.HeaderLaws.{length-header_tail, HasHeader-page, page-HasHeader}
+
+take-HasFront : (kind number site : ℕ) (page : List ℕ) (has : HasFront kind number page site)
+    → take 16 page ≡ has.gate ∷ codes "OBS" ++ kind ∷ 1 ∷ [] ++ to_be_bytes w16 number ++ to_be_bytes w64 site
+take-HasFront kind number site page has =
+    rw (take-add 8 8 page, take-add 6 2 page, take-add 1 5 page, has.gate_stands, has.named, has.number_stands, has.site_stands.stands) refl
+
+page-HasFront : (kind number site : ℕ) (own page : List ℕ) (has : HasFront kind number page site) → drop 16 page ≡ own → page ≡ has.gate ∷ header_tail kind number site own
+unfolding header_tail
+page-HasFront kind number site own page has e = sym (take-append-drop 16 page) ∙ rw (take-HasFront kind number site page has, e) refl
+
+-- an open front before the kind's own bytes is a header
+pub HasHeader-front : (kind number site : ℕ) (own page : List ℕ) → length page ≡ 4096 → HasFront kind number page site → drop 16 page ≡ own
+    → HasHeader (header_tail kind number site own) page
+HasHeader-front kind number site own page fills has e =
+    HasHeader-page has.gate (header_tail kind number site own) page has.is_open
+    (length-header_tail kind number site own (omega (arith, ap length e, length-drop 16 page, fills))) (page-HasFront kind number site own page has e)
+
+module _ (kind number site : ℕ) (own page : List ℕ) (fills : length page ≡ 4096) (has : HasHeader (header_tail kind number site own) page) where
+  -- a header has its front
+  pub HasFront-header : site < 2 ^ 64 → HasFront kind number page site
+  unfolding header_tail
+  HasFront-header fits =
+      let e = page-HasHeader (header_tail kind number site own) page fills has in
+      subst (λ (bytes : List ℕ). HasFront kind number bytes site) (sym e)
+      (record { gate = has.gate; is_open = has.is_open; gate_stands = refl; named = refl; number_stands = refl; site_stands = record { fits = fits; stands = refl } })
+
+  -- and the kind's own bytes behind it
+  pub drop-header : drop 16 page ≡ own
+  unfolding header_tail
+  drop-header = ap (drop 16) (page-HasHeader (header_tail kind number site own) page fills has)
+
+pub zeros_no_own : (bytes : List ℕ) → length bytes ≡ 4080 → All (λ byte. byte ≡ 0) bytes → bytes ≡ no_own
+unfolding no_own
+zeros_no_own bytes fills zeros = zeros_are_replicated bytes zeros ∙ ap (λ (n : ℕ). replicate {A = ℕ} n 0) fills
+
+pub no_own_zeros : (bytes : List ℕ) → bytes ≡ no_own → All (λ byte. byte ≡ 0) bytes
+unfolding no_own
+no_own_zeros bytes e = All-same (λ byte. byte ≡ 0) bytes (replicate {A = ℕ} 4080 0) e (All-replicate (λ byte. byte ≡ 0) 4080 0 refl)
+
+-- the log's header as it is written
+pub log_page : (site n : ℕ) → n ≡ 4080
+    → (1 ∷ codes "OBS" ++ 4 ∷ 1 ∷ [] ++ to_be_bytes w16 0 ++ to_be_bytes w64 site) ++ replicate {A = ℕ} n 0 ≡ 1 ∷ log_tail site
+unfolding header_tail no_own
+log_page site n e = ap (λ (k : ℕ). (1 ∷ codes "OBS" ++ 4 ∷ 1 ∷ [] ++ to_be_bytes w16 0 ++ to_be_bytes w64 site) ++ replicate {A = ℕ} k 0) e

@@ -1,0 +1,3 @@
+pub mod SpaceLemmas
+pub mod FrontLemmas
+pub mod CatalogueLemmas

@@ -1,0 +1,4 @@
+pub mod Table
+pub mod LowLaws
+pub mod OrderLaws
+pub mod TableLaws
