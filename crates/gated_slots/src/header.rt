@@ -58,6 +58,8 @@ pub fn header_close<D: Disk>(disk: &mut D, era: &Era) -> Result<(), Failed>
     ensures kept { IsTrue D.tells → IsClosed (D.bytes disk.old)
         → OnOk result (Unchanged (D.image disk.old) (D.image disk.new)) }
     ensures crash { Leaves era.now.number MayClose (D.image disk.old) (D.image disk.new) }
+    ensures still { IsTrue D.tells → IsClosed (D.bytes disk.old)
+        → Leaves era.now.number Same (D.image disk.old) (D.image disk.new) }
 
     ensures ledger { Uses era.now 1 1 (D.ledger disk.old) (D.ledger disk.new) }
     ensures bound { IsTrue D.tells → IsClosed (D.bytes disk.old)

@@ -1,7 +1,7 @@
 //! Areas of slots on a disk, each slot with a gate byte in a region of its own, and the header page of a disk.
 //!
-//! A batch of slots is appended as a whole: whatever moment the machine stops at, each image of the disk has the old
-//! slots, or the old ones and the whole batch, and after Ok the latter. No call allocates.
+//! A batch of slots is appended as a whole: where the slots agree with their disk and it reaches up to the next one,
+//! each image that a crash leaves has the old slots, or the old ones and the whole batch, and after Ok the latter.
 #![tactic(auto)]
 
 mod header;

@@ -1,7 +1,8 @@
 //! The grammar of the words and scripts of `onbar`, as definitions that the readers and the model of the site cite.
 #![tactic(auto)]
 
-/// Why a script line is refused. Of several faults on a line the first in this order is answered.
+/// Why a script line is refused. A line or a script that is too long is refused before the line is read; of the faults of
+/// a line that is read, the first in this order is answered.
 #[derive(Clone, Copy, Debug, PartialEq, Eq)]
 pub enum Why {
     /// The line isn't in the grammar.

@@ -1,5 +1,5 @@
 -- The texts that `onbar` prints. Every line ends with a line feed; numbers are decimal.
-use Rattle.std.specs.Prelude.{ℕ, ◌+◌, ◌/◌, ◌%◌, List, [], ◌∷◌, ◌++◌, length, drop, count_by, Bool, true, false, codes}
+use Rattle.std.specs.Prelude.{ℕ, List, [], ◌∷◌, ◌++◌, length, drop, count_by, Bool, true, false, codes, if◌then◌else◌, nat_lt}
 use Rattle.std.specs.Fmt.{decimal}
 use Rattle.log_history.specs.History.{Entry, History, commit}
 use Rattle.onbar_grammar.specs.declared.Why.{Why}
@@ -39,9 +39,9 @@ why_text TooLong = codes "line too long"
 why_text ScriptTooLong = codes "script too long"
 why_text NoMemory = []
 
--- a number below 100 in two digits
+-- a number in two digits, or in more from 100 on
 abbrev pub two_digits : ℕ → List ℕ
-two_digits n = (48 + n / 10) ∷ (48 + n % 10) ∷ []
+two_digits n = if nat_lt n 10 then 48 ∷ decimal n else decimal n
 
 -- the file that stands for a disk
 abbrev pub disk_text : DiskName → List ℕ

@@ -1,0 +1,13 @@
+mod AppendLemmas
+mod CommandLemmas
+mod EndLemmas
+mod ExtendLemmas
+mod FormattingLemmas
+mod HeaderLemmas
+mod LinesLemmas
+mod ListLemmas
+mod OpeningLemmas
+mod ReadingLemmas
+mod ReplayLemmas
+mod SiteLemmas
+mod TurnLemmas

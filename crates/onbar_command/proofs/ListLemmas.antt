@@ -1,0 +1,22 @@
+-- Fronts of lists.
+use Rattle.std.proofs.Common.{◌≡◌, ℕ, ◌+◌, ◌-◌, ◌≤◌, List, ◌++◌, length, take, drop, sym, ◌∙◌, ap, arith, append_assoc, length-drop}
+use Rattle.std.proofs.lemmas.List.{take-append-drop, take-take, drop-take, take_rest}
+
+pub take-add : {A : Type 0} (a n : ℕ) (xs : List A) → take (a + n) xs ≡ take a xs ++ take n (drop a xs)
+take-add {A} a n xs =
+    sym (take-append-drop a (take (a + n) xs))
+    ∙ ap (λ (l : List A). l ++ drop a (take (a + n) xs)) (take-take a (a + n) xs (omega arith))
+    ∙ ap (λ (l : List A). take a xs ++ l) (drop-take a n xs)
+
+-- a front of the text, and a front of what is left
+pub front_more : (text begun old new : List ℕ) (at n : ℕ) → old ≡ begun ++ take at text
+    → new ≡ old ++ take n (take (length text - at) (drop at text)) → new ≡ begun ++ take (at + n) text
+front_more text begun old new at n was is =
+    is
+    ∙ ap (λ (l : List ℕ). l ++ take n (take (length text - at) (drop at text))) was
+    ∙ ap (λ (l : List ℕ). begun ++ take at text ++ take n l) (take_rest text at)
+    ∙ append_assoc begun (take at text) (take n (drop at text))
+    ∙ ap (λ (l : List ℕ). begun ++ l) (sym (take-add at n text))
+
+pub within_more : (text : List ℕ) (at n : ℕ) → at ≤ length text → n ≤ length (take (length text - at) (drop at text)) → at + n ≤ length text
+within_more text at n le fits = omega (arith, ap length (take_rest text at), length-drop at text)

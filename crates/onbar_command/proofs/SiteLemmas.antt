@@ -1,0 +1,184 @@
+-- What the two disks of a form say of all disks of a site.
+use Rattle.std.proofs.Common.{◌≡◌, inl, inr, ℕ, ◌+◌, ◌<◌, ◌≤◌, List, [], ◌∷◌, ◌++◌, length, map, count_by, Option, None, Some, slice_get, Result, Ok, Err, refl, sym, ◌∙◌, ap, subst, arith}
+use Rattle.std.proofs.lemmas.Bool.{cases_lt}
+use Rattle.std.proofs.Math.Seq.{drop-append_seam}
+use Rattle.log_history.specs.History.{History}
+use Rattle.onbar_grammar.specs.Script.{raw_lines}
+use Rattle.site_disk.specs.Ledger.{EraView, Ledger, MayUse}
+use Rattle.site_headers.specs.Headers.{HasHeader, catalogue_tail}
+use Rattle.site_model.specs.declared.disk_name.DiskName.{DiskName}
+use Rattle.site_model.specs.declared.disk_name.DiskName.TheVariants.{Cat, Spare, Boot, Log, Volume, Chunk}
+use Rattle.site_model.specs.declared.status.Status.{Status}
+use Rattle.site_model.specs.Commands.{IsAmong, IsPassed, frame_of}
+use Rattle.site_model.specs.Layouts.{Shows, StandFor, HoldsLog, HasNoCatalogue}
+use Rattle.site_model.specs.Runs.{Run, Ending, run_of, run_form, run_lines, first_place, transactions}
+use Rattle.site_model.specs.Steps.{Passes, StandsAmong, ShowsOrRests}
+use Rattle.site_model.specs.Texts.{counts_text, extension_text, status_text, is_commit_entry}
+use Rattle.site_model.specs.Worlds.{Site, World, unformatted, formatted, with_history, IsFit}
+use Rattle.onbar_command.specs.declared.extending.Extended.{Extended}
+use Rattle.onbar_command.specs.declared.formatted.HeadFault.{HeadFault}
+use Rattle.onbar_command.specs.declared.formatted.HeadFault.TheVariants.{NotFormatted as HeadMissing, Failed as HeadFailed, OutOfMemory as HeadMemory}
+use Rattle.onbar_command.specs.declared.site.SiteDisks.{SiteDisks}
+use Rattle.onbar_command.specs.Disks.{contents_of, images_of, disk_of, may_or, MayUseAll, Rests}
+use Rattle.onbar_command.specs.Extending.{ExtendsTo, head_status}
+use Rattle.onbar_command.specs.Forms.{Finishes}
+use Rattle.onbar_command.specs.Walks.{IsOneOf, IsOnTheWay, LogWalk}
+
+module _ {D : Type 0} (disks : SiteDisks D) (cat log : D) where
+  abbrev pub moved : SiteDisks D
+  moved = record disks { cat = cat; log = log }
+
+  pub stand_for : (bytes : D → List ℕ) (world : World) → Shows Cat world (bytes cat) → Shows Log world (bytes log) → StandFor (contents_of bytes moved) world
+  stand_for bytes world of_cat of_log Cat = of_cat
+  stand_for bytes world of_cat of_log Log = of_log
+  stand_for bytes world of_cat of_log Spare = tt
+  stand_for bytes world of_cat of_log Boot = tt
+  stand_for bytes world of_cat of_log (Volume n) = tt
+  stand_for bytes world of_cat of_log (Chunk n) = tt
+
+  module _ (image : D → ℕ → List ℕ → Type 0) (entry : ℕ) (rests : DiskName → Type 0) where
+    abbrev pub Found : (World → Type 0) → ℕ → List ℕ → List ℕ → Type 0
+    Found passed f a b = (world : World) × passed world × ShowsOrRests (frame_of entry (images_of image disks) rests passed) f Cat world a
+        × ShowsOrRests (frame_of entry (images_of image disks) rests passed) f Log world b
+
+    shows_all : (passed : World → Type 0) (f : ℕ) (choice : DiskName → List ℕ) (found : Found passed f (choice Cat) (choice Log)) (name : DiskName)
+        → ShowsOrRests (frame_of entry (images_of image disks) rests passed) f name found.0 (choice name)
+    shows_all passed f choice found Cat = found.2
+    shows_all passed f choice found Log = found.3
+    shows_all passed f choice found Spare = inl tt
+    shows_all passed f choice found Boot = inl tt
+    shows_all passed f choice found (Volume n) = inl tt
+    shows_all passed f choice found (Chunk n) = inl tt
+
+    pub stands_so : (passed : World → Type 0) (f : ℕ) → ((a b : List ℕ) → image cat f a → image log f b → Found passed f a b)
+        → StandsAmong (frame_of entry (images_of image disks) rests passed) f (images_of image moved f)
+    stands_so passed f found choice images =
+        let here = found (choice Cat) (choice Log) (images Cat) (images Log) in (here.0, here.1, shows_all passed f choice here)
+
+    pub passes_so : (passed : World → Type 0) → ((f : ℕ) (c : List ℕ) → f ≤ entry + 1 → image cat f c → image disks.cat f c)
+        → ((f : ℕ) (c : List ℕ) → f ≤ entry + 1 → image log f c → image disks.log f c)
+        → ((f : ℕ) → entry + 1 < f → (a b : List ℕ) → image cat f a → image log f b → Found passed f a b)
+        → Passes (frame_of entry (images_of image disks) rests passed) (images_of image moved)
+    passes_so passed early_cat early_log found = record { earlier = earlier; later = λ f lt. stands_so passed f (found f lt) }
+      where
+        earlier : (f : ℕ) (name : DiskName) (bytes : List ℕ) → f ≤ entry + 1 → images_of image moved f name bytes → images_of image disks f name bytes
+        earlier f Cat bytes le is = early_cat f bytes le is
+        earlier f Log bytes le is = early_log f bytes le is
+        earlier f Spare bytes le is = is
+        earlier f Boot bytes le is = is
+        earlier f (Volume n) bytes le is = is
+        earlier f (Chunk n) bytes le is = is
+
+-- the logs of a walk are worlds of its run
+among : (site : Site) (passed : List History) (history : History) → IsOneOf history passed → IsAmong (map (with_history site) passed) (with_history site history)
+among site [] history is = absurd is
+among site (first ∷ others) history (inl here) = inl (ap (with_history site) here)
+among site (first ∷ others) history (inr there) = inr (among site others history there)
+
+pub is_passed : (site : Site) (ending : Ending) (history : History) → IsOnTheWay site ending.passed history → IsPassed (formatted site) (run_of site ending) (with_history site history)
+is_passed site ending history (inl begin) = inl (ap (with_history site) begin)
+is_passed site ending history (inr there) = inr (among site ending.passed history there)
+
+pub walk_of : (site : Site) (ending : Ending) (after : List ℕ) (start now : ℕ) (bytes : List ℕ) (old new : ℕ → List ℕ → Type 0) (result : Result Extended Status)
+    → ExtendsTo site ending after start now bytes old new result → LogWalk site ending.passed start old new
+walk_of site ending after start now bytes old new (Ok told) is = is.walk
+walk_of site ending after start now bytes old new (Err status) is = is.1
+
+-- the text of a log that gained these records
+pub text_is : (before last added : History) → last ≡ before ++ added
+    → extension_text before last ≡ counts_text (length added) (count_by is_commit_entry added) (length (before ++ added))
+text_is before last added is =
+    ap (λ (h : History). extension_text before h) is
+    ∙ ap (λ (h : History). counts_text (length h) (count_by is_commit_entry h) (length (before ++ added))) (drop-append_seam before added)
+
+-- the run of an extended log is done
+module _ {D : Type 0} (disks : SiteDisks D) (cat log : D) (bytes_of : D → List ℕ) (image : D → ℕ → List ℕ → Type 0) (entry : ℕ) (rests : DiskName → Type 0)
+    (site : Site) (moment : ℕ) (script : List ℕ) (start now : ℕ) (old : ℕ → List ℕ → Type 0) where
+  abbrev pub run_here : Run
+  run_here = transactions moment site script
+
+  abbrev pub ending_here : Ending
+  ending_here = run_lines site.head.spaces moment (raw_lines script) (first_place site.history)
+
+  pub finishes_so : (after : List ℕ) (result : Result Extended Status) → ExtendsTo site ending_here after start now (bytes_of log) old (image log) result
+      → HasHeader (catalogue_tail site.head) (bytes_of cat)
+      → ((f : ℕ) (c : List ℕ) → now < f → image cat f c → HasHeader (catalogue_tail site.head) c)
+      → Finishes run_here after (contents_of bytes_of (moved disks cat log)) (now + 1) (frame_of entry (images_of image disks) rests) (images_of image (moved disks cat log)) result
+  finishes_so after (Err status) is header later = inl is.0
+  finishes_so after (Ok told) is header later =
+      let last : run_here.last ≡ with_history site (site.history ++ is.added) = ap (with_history site) is.last in
+      record {
+        status = is.status;
+        text = ap (λ (t : List ℕ). t ++ status_text ending_here.status)
+            (text_is site.history ending_here.last is.added is.last
+            ∙ ap (λ (n : ℕ). counts_text n (count_by is_commit_entry is.added) (length (site.history ++ is.added))) (sym is.lines)
+            ∙ ap (λ (n : ℕ). counts_text told.counts.lines n (length (site.history ++ is.added))) (sym is.commits)
+            ∙ ap (λ (n : ℕ). counts_text told.counts.lines told.counts.commits n) (sym is.end))
+            ∙ ap (λ (s : Status). counts_text told.counts.lines told.counts.commits told.end ++ status_text s) is.status;
+        reads = subst (λ (w : World). StandFor (contents_of bytes_of (moved disks cat log)) w) (sym last)
+            (stand_for disks cat log bytes_of (with_history site (site.history ++ is.added)) header is.holds);
+        crash = λ f le. stands_so disks cat log image entry rests (λ world. world ≡ run_here.last) f
+            (λ a b of_cat of_log. (with_history site (site.history ++ is.added), sym last, inl (later f a (omega arith) of_cat), inl (is.later f b (omega arith) of_log)));
+        read = is.read;
+      }
+
+  -- where a stop may leave it
+  pub found_so : (after : List ℕ) (result : Result Extended Status) → ExtendsTo site ending_here after start now (bytes_of log) old (image log) result
+      → ((f : ℕ) (c : List ℕ) → entry + 1 < f → image cat f c → HasHeader (catalogue_tail site.head) c)
+      → ((f : ℕ) (c : List ℕ) → entry + 1 < f → old f c → HoldsLog site c)
+      → (f : ℕ) → entry + 1 < f → (a b : List ℕ) → image cat f a → image log f b → Found disks cat log image entry rests (IsPassed (formatted site) run_here) f a b
+  found_so after result is of_cat of_log f lt a b cat_image log_image =
+      let walk = walk_of site ending_here after start now (bytes_of log) old (image log) result is in
+      elim (cases_lt start f) [
+        | inl behind ↦ let from = walk.later f b behind log_image in
+            (with_history site from.0, is_passed site ending_here from.0 from.1, inl (of_cat f a lt cat_image), inl from.2)
+        | inr within ↦ (formatted site, inl refl, inl (of_cat f a lt cat_image), inl (of_log f b lt (walk.earlier f b within log_image)))
+      ]
+
+-- the site's head can't be had: it isn't formatted, or that was cut short
+pub head_finishes : {D : Type 0} (disks : SiteDisks D) (cat log : D) (bytes_of : D → List ℕ) (image : D → ℕ → List ℕ → Type 0) (entry now : ℕ) (rests : DiskName → Type 0)
+    (moment : ℕ) (script after : List ℕ) (fault : HeadFault) (world : World) → IsFit world
+    → (fault ≡ HeadMissing → HasNoCatalogue (bytes_of cat) × Shows Cat world (bytes_of cat))
+    → ((f : ℕ) (c : List ℕ) → now < f → image cat f c → Shows Cat world c)
+    → Finishes (run_form moment world script None) after (contents_of bytes_of (moved disks cat log)) (now + 1) (frame_of entry (images_of image disks) rests)
+    (images_of image (moved disks cat log)) (Err (head_status fault))
+head_finishes disks cat log bytes_of image entry now rests moment script after HeadFailed world fit missing later = inl tt
+head_finishes disks cat log bytes_of image entry now rests moment script after HeadMemory world fit missing later = inl tt
+head_finishes disks cat log bytes_of image entry now rests moment script after HeadMissing (formatted site) fit missing later =
+    let found = missing refl in absurd (found.0 site.head fit.head found.1)
+head_finishes disks cat log bytes_of image entry now rests moment script after HeadMissing unformatted fit missing later = inr (record {
+  status = refl;
+  text = refl;
+  reads = stand_for disks cat log bytes_of unformatted (let found = missing refl in found.1) tt;
+  crash = λ f le. stands_so disks cat log image entry rests (λ world. world ≡ unformatted) f
+      (λ a b of_cat of_log. (unformatted, refl, inl (later f a (omega arith) of_cat), inl tt));
+  read = λ is. absurd (cc);
+})
+
+module _ {D : Type 0} (ledger : D → Ledger) (era later : EraView) (key : later.key ≡ era.key) (le : era.number ≤ later.number) where
+  may_later : (disk : Option D) → may_or ledger era disk → may_or ledger later disk
+  may_later None may = tt
+  may_later (Some disk) may = record { key = may.key ∙ sym key; not_past = (let past = may.not_past in omega arith); synced = may.synced }
+
+  -- the disks that a form doesn't use may be used on
+  pub may_all : (old new : SiteDisks D) → new.spare ≡ old.spare → new.boot ≡ old.boot → new.volumes ≡ old.volumes → new.chunks ≡ old.chunks → MayUseAll ledger era old
+      → MayUse later (ledger new.cat) → MayUse later (ledger new.log) → MayUseAll ledger later new
+  may_all old new spare boot volumes chunks may cat log Cat = cat
+  may_all old new spare boot volumes chunks may cat log Log = log
+  may_all old new spare boot volumes chunks may cat log Spare = subst (λ (d : D). MayUse later (ledger d)) (sym spare) (may_later (Some old.spare) (may Spare))
+  may_all old new spare boot volumes chunks may cat log Boot = subst (λ (d : D). MayUse later (ledger d)) (sym boot) (may_later (Some old.boot) (may Boot))
+  may_all old new spare boot volumes chunks may cat log (Volume n) =
+      rw volumes (may_later (slice_get old.volumes.items n) (may (Volume n)))
+  may_all old new spare boot volumes chunks may cat log (Chunk n) =
+      rw chunks (may_later (slice_get old.chunks.items n) (may (Chunk n)))
+
+  pub may_all_later : (disks : SiteDisks D) → MayUseAll ledger era disks → MayUseAll ledger later disks
+  may_all_later disks may name = may_later (disk_of disks name) (may name)
+
+-- a command that uses no disk
+pub passes_still : {D : Type 0} (image : D → ℕ → List ℕ → Type 0) (ledger : D → Ledger) (entry : ℕ) (disks : SiteDisks D) (world : World) (run : Run)
+    → Passes (frame_of entry (images_of image disks) (Rests ledger disks disks) (IsPassed world run)) (images_of image disks)
+passes_still image ledger entry disks world run = record {
+  earlier = λ f name bytes le is. is;
+  later = λ f lt choice images. (world, inl refl, λ name. inr (refl, images name));
+}

@@ -1,0 +1,55 @@
+use Rattle.std.proofs.Common.{◌≡◌, ◌∙◌, ◌+◌, ◌++◌, [], List, sym, ap, subst, arith}
+use Rattle.std.proofs.lemmas.List.{append-nil}
+use Rattle.log_history.specs.History.{History}
+use Rattle.onbar_grammar.specs.Script.{Space}
+use Rattle.onbar_words.specs.Cutting.{LinesView}
+use Rattle.onbar_words.specs.SpaceHead.{spaces_of}
+use Rattle.site_headers.specs.Heads.{Head}
+use Rattle.site_model.specs.Runs.{Place, Ending, first_place}
+use Rattle.site_model.specs.Worlds.{Site}
+use Rattle.site_headers.specs.declared.heads.SpaceHead.{SpaceHead}
+use Rattle.onbar_command.specs.declared.transactions.Counts.{Counts}
+use Rattle.onbar_command.specs.Ends.{RunEnds}
+use Rattle.onbar_command.specs.Logs.{IsReady}
+use Rattle.onbar_command.specs.Scripts.{run_text}
+use Rattle.onbar_command.specs.Turns.{Between, stands_at}
+use Rattle.onbar_command.proofs.ExtendLemmas.{nothing_new, cuts_short, rests_walk, begins_at, extends_to}
+use Rattle.onbar_command.proofs.extending.extend_log.Goals as goal
+
+pub returns-in-Err-clause-extended : goal.returns-in-Err-clause-extended
+returns-in-Err-clause-extended g c tells_disk tells_source site head order holds later =
+    let call = c.in-Err.ensures in
+    let e = c.args.era.now.number in (
+      rw c.log_status.ensures (cuts_short c.in-Err.fault (call.complete tells_disk site (ap (λ (h : Head). h.site) head) order holds)),
+      rests_walk site _ e _ _ later
+          (nothing_new e _ _ call.crash (λ image is. g.met.D.Disk.now_counts c.args.log.now e (e + 1) image (omega (arith, c.requires.may.not_past)) (omega (arith, c.requires.may.not_past)) is)),
+    )
+
+pub returns-clause-extended : goal.returns-clause-extended
+returns-clause-extended g c tells_disk tells_source site head order holds later =
+    let call = c.in-Ok.ensures in
+    let begun = c.begin_work-work.ensures in
+    let work = c.begin_work-work.result in
+    let run = c.run_script-stop.ensures in
+    let e = c.args.era.now.number in
+    let left = g.S.Source.left c.args.source.now in
+    let opened = call.opened tells_disk site (ap (λ (h : Head). h.site) head) order holds in
+    let nothing = nothing_new e _ _ call.crash (λ image is. g.met.D.Disk.now_counts c.args.log.now e (e + 1) image (omega (arith, c.requires.may.not_past)) (omega (arith, c.requires.may.not_past)) is) in
+    let same : record site { history = site.history ++ [] } ≡ site = ap (λ (h : History). record site { history = h }) (append-nil site.history) in
+    let ready = subst (λ (s : Site). IsReady s c.in-Ok.opened.slots (g.D.Disk.ledger c.open_log.new.disk).last (g.D.Disk.bytes c.open_log.new.disk) (g.D.Disk.image c.open_log.new.disk)) (sym same) opened.1 in
+    let between : Between site [] work (g.D.Disk.ledger c.open_log.new.disk).last (g.D.Disk.bytes c.open_log.new.disk) (g.D.Disk.image c.open_log.new.disk) = record {
+      ready = rw begun.slots ready;
+      lines = ap (λ (k : Counts). k.lines) begun.counts;
+      commits = ap (λ (k : Counts). k.commits) begun.counts;
+    } in
+    let spaces : spaces_of c.deref.result.now ≡ site.head.spaces = ap (λ (l : List SpaceHead). spaces_of l) c.deref.ensures.value ∙ sym (ap (λ (h : Head). h.spaces) head) in
+    let place : stands_at work site [] [] ≡ first_place site.history = begins_at work.progress site.history c.in-Ok.opened.state begun.lines begun.line begun.batch begun.«open» begun.time opened.0 in
+    let ending : run_text (spaces_of c.deref.result.now) c.args.moment (work.progress.lines.held ++ left) (stands_at work site [] []) ≡ run_text site.head.spaces c.args.moment left (first_place site.history)
+    = ap (λ (s : List Space). run_text s c.args.moment (work.progress.lines.held ++ left) (stands_at work site [] [])) spaces
+    ∙ ap (λ (l : LinesView). run_text site.head.spaces c.args.moment (l.held ++ left) (stands_at work site [] [])) begun.lines
+    ∙ ap (λ (p : Place). run_text site.head.spaces c.args.moment left p) place in
+    let ends = subst (λ (n : Ending). RunEnds site n (c.run_script-stop.new.work.progress.lines.held ++ g.S.Source.left c.run_script-stop.new.source) c.run_script-stop.new.work e
+    (g.D.Disk.ledger c.run_script-stop.new.log).last (g.D.Disk.bytes c.run_script-stop.new.log) (g.D.Disk.image c.open_log.new.disk) (g.D.Disk.image c.run_script-stop.new.log) c.run_script-stop.result)
+    ending (run.ended tells_disk tells_source site between) in
+    rw c.report.ensures.told (extends_to site (run_text site.head.spaces c.args.moment left (first_place site.history)) c.run_script-stop.new.work.progress.lines.held (g.S.Source.left c.run_script-stop.new.source)
+    c.run_script-stop.new.work e _ c.run_script-stop.new.era.number _ _ _ _ run.may.not_past nothing c.run_script-stop.result ends)

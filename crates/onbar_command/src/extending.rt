@@ -1,0 +1,157 @@
+// A script of transactions extends the log of a formatted site.
+ghost use Rattle.std.specs.Prelude.{◌≡◌, ◌+◌, ◌<◌, ◌≤◌, ◌^◌, ◌++◌, [], ℕ, List, length, IsTrue, IfOk, OnErr, IsErrOf, IfErr};
+ghost use Rattle.log_history.specs.Transactions.{InOrder};
+ghost use Rattle.onbar_words.specs.Cutting.{TakesFront};
+ghost use Rattle.site_disk.specs.Causes.{Rose};
+ghost use Rattle.site_disk.specs.Ledger.{MayUse};
+ghost use Rattle.site_headers.specs.Heads.{IsHead};
+ghost use Rattle.site_headers.specs.Views.{head_of};
+ghost use Rattle.site_model.specs.declared.disk_name.DiskName.{DiskName};
+ghost use Rattle.site_model.specs.Layouts.{HoldsLog};
+ghost use Rattle.site_model.specs.Runs.{first_place};
+ghost use Rattle.site_model.specs.Worlds.{Site};
+ghost use Rattle.onbar_command.specs.Extending.{head_status, log_status, report_of, ExtendsTo};
+ghost use Rattle.onbar_command.specs.Forms.{IsNoStop};
+ghost use Rattle.onbar_command.specs.Scripts.{run_text};
+
+use crate::collecting::Collected;
+use crate::formatted::HeadFault;
+use crate::opening::{OpenFault, OpenLog, open_log};
+use crate::replay::LogState;
+use crate::running::run_script;
+use crate::script::Progress;
+use crate::transactions::{Counts, Stop, Work};
+use onbar_words::Lines;
+use site_disk::{Disk, Era, Source};
+use site_headers::SiteHead;
+use site_model::{DiskName, LogFull, Status};
+use std::alloc::Global;
+use std::vec::Vec;
+
+/// How far a script went: its records that stand, the end of the log, and how the run ended.
+#[derive(Debug, Drop)]
+pub struct Extended {
+    pub counts: Counts,
+    pub end: u64,
+    pub status: Status,
+}
+
+pub fn head_status(fault: HeadFault) -> Status
+    ensures { result ≡ head_status fault }
+{
+    match fault {
+        HeadFault::NotFormatted => Status::NotFormatted,
+        HeadFault::Failed => Status::DiskFault(DiskName::Cat),
+        HeadFault::OutOfMemory => Status::OutOfMemory,
+    }
+}
+
+fn log_status(fault: OpenFault) -> Status
+    ensures { result ≡ log_status fault }
+{
+    match fault {
+        OpenFault::LogLost => Status::LogLost,
+        OpenFault::BadRecord { slot } => Status::BadRecord {
+            disk: DiskName::Log,
+            slot,
+        },
+        OpenFault::Failed => Status::DiskFault(DiskName::Log),
+        OpenFault::OutOfMemory => Status::OutOfMemory,
+    }
+}
+
+/// A run at its begin.
+fn begin_work(alloc: Global, opened: OpenLog) -> Work
+    ensures slots { result.slots ≡ opened.slots }
+    ensures lines { result.progress.lines ≡ record { begun = 0; line = []; held = [] } }
+    ensures line { result.progress.line ≡ 0 }
+    ensures batch { result.progress.collected.batch.items ≡ [] }
+    ensures open { result.progress.collected.open ≡ opened.state.open }
+    ensures time { result.progress.collected.time ≡ opened.state.time }
+    ensures counts { result.counts ≡ record { lines = 0; commits = 0 } }
+{
+    let OpenLog { slots, state } = opened;
+    let LogState { open, time, .. } = state;
+    let collected = Collected {
+        batch: Vec::new(alloc),
+        open,
+        time,
+    };
+    Work {
+        slots,
+        progress: Progress {
+            lines: Lines::new(alloc),
+            line: 0,
+            collected,
+        },
+        counts: Counts {
+            lines: 0,
+            commits: 0,
+        },
+    }
+}
+
+/// What a run comes to that stopped so.
+fn report(stop: Stop, work: &Work) -> Result<Extended, Status>
+    ensures told { result ≡ report_of stop work.now }
+    ensures no_stop { IfOk result IsNoStop }
+{
+    let end = work.slots.used() as u64;
+    let status = match stop {
+        Stop::End => Status::Ok,
+        Stop::Fault { why } => Status::ScriptFault {
+            line: work.progress.line,
+            why,
+        },
+        Stop::Full => Status::LogFull(LogFull::Positions { end }),
+        Stop::ReadFault => return Err(Status::ReadFault),
+        Stop::DiskFault => return Err(Status::DiskFault(DiskName::Log)),
+        Stop::OutOfMemory => return Err(Status::OutOfMemory),
+    };
+    Ok(Extended {
+        counts: work.counts,
+        end,
+        status,
+    })
+}
+
+/// Opens the log of a site and extends it by what a script says. The buffer is room for a page.
+pub fn extend_log<D: Disk, S: Source>(
+    alloc: Global,
+    head: &SiteHead,
+    log: &mut D,
+    era: &mut Era,
+    buffer: &mut [u8; 4096],
+    source: &mut S,
+    moment: u64,
+) -> Result<Extended, Status>
+    requires head { IsHead (head_of head.now) }
+    requires may { MayUse era.old (D.ledger log.old) }
+    requires number { era.old.number ≤ 2 ^ 63 + 8 }
+    requires moment { moment ≤ 2 ^ 48 }
+
+    ensures extended { IsTrue D.tells → IsTrue S.tells → (site : Site) → site.head ≡ head_of head.now → InOrder site.history → HoldsLog site (D.bytes log.old)
+        → ((f : ℕ) (c : List ℕ) → era.old.number < f → D.image log.old f c → HoldsLog site c)
+        → ExtendsTo site (run_text site.head.spaces moment (S.left source.old) (first_place site.history)) (S.left source.new)
+        era.old.number era.new.number (D.bytes log.new) (D.image log.old) (D.image log.new) result }
+
+    ensures no_stop { IfOk result IsNoStop }
+    ensures era { era.new.number ≤ era.old.number + 16777218 }
+    ensures era_later { era.old.number ≤ era.new.number }
+    ensures key { era.new.key ≡ era.old.key }
+    ensures may { MayUse era.new (D.ledger log.new) }
+    ensures later { (D.ledger log.old).faults ≤ (D.ledger log.new).faults }
+    ensures taken { IsTrue S.tells → TakesFront (S.left source.old) (S.left source.new) }
+    ensures source_later { S.faults source.old ≤ S.faults source.new }
+    ensures read_fault { IsErrOf result Status.ReadFault → Rose (S.faults source.old) (S.faults source.new) }
+    ensures no_write_fault { IsErrOf result Status.WriteFault → ⊥ }
+    ensures disk_fault { (name : DiskName) → IsErrOf result (Status.DiskFault name) → (name ≡ DiskName.Log) × Rose (D.ledger log.old).faults (D.ledger log.new).faults }
+{
+    let opened = match open_log(alloc, log, era, head.site, buffer) {
+        Ok(opened) => opened,
+        Err(fault) => return Err(log_status(fault)),
+    };
+    let mut work = begin_work(alloc, opened);
+    let stop = run_script(log, era, &mut work, buffer, source, &head.spaces, moment);
+    report(stop, &work)
+}

@@ -1,0 +1,166 @@
+// The lines of a script up to its end or a fault, and the last batch.
+ghost use Rattle.std.specs.Prelude.{◌≡◌, ◌+◌, ◌-◌, ◌<◌, List, Some, IsSome, IfSome, ◌≤◌, ◌^◌, ◌++◌, ◌⊎◌, [], length, IsTrue};
+ghost use Rattle.std.specs.List.{AllByRecursion};
+ghost use Rattle.log_history.specs.History.{History};
+ghost use Rattle.onbar_words.specs.Cutting.{TakesFront};
+ghost use Rattle.onbar_words.specs.SpaceHead.{spaces_of};
+ghost use Rattle.site_disk.specs.Causes.{Rose};
+ghost use Rattle.site_disk.specs.Ledger.{MayUse};
+ghost use Rattle.site_headers.specs.Heads.{IsSpace};
+ghost use Rattle.site_model.specs.declared.status.Status.{Status};
+ghost use Rattle.site_model.specs.Runs.{ended};
+ghost use Rattle.site_model.specs.Worlds.{Site};
+ghost use Rattle.onbar_command.specs.Collecting.{IsBounded};
+ghost use Rattle.onbar_command.specs.Ends.{LinesEnd, LastEnds, RunEnds};
+ghost use Rattle.onbar_command.specs.Scripts.{run_text};
+ghost use Rattle.onbar_command.specs.Turns.{Between, stands_at};
+
+use crate::transactions::{Stop, Work, append_collected, stopped_by, turn};
+use onbar_words::SpaceHead;
+use site_disk::{Disk, Era, Source};
+
+/// Takes the lines of a script, and appends each batch that is whole, up to the script's end or a fault.
+fn take_lines<D: Disk, S: Source>(
+    log: &mut D,
+    era: &mut Era,
+    work: &mut Work,
+    buffer: &mut [u8; 4096],
+    source: &mut S,
+    spaces: &[SpaceHead],
+    moment: u64,
+) -> Stop
+    requires may { MayUse era.old (D.ledger log.old) }
+    requires number { era.old.number ≤ 2 ^ 63 + 8 }
+    requires size { work.old.slots.area.size ≡ 128 }
+    requires capacity { work.old.slots.area.capacity ≡ 65536 }
+    requires used { work.old.slots.used ≤ 65536 }
+    requires few { length spaces.now ≤ 16 }
+    requires spaces { AllByRecursion IsSpace (spaces_of spaces.now) }
+    requires moment { moment ≤ 2 ^ 48 }
+    requires bounded { IsBounded 31 work.old.progress.collected }
+    requires line { work.old.progress.line ≤ work.old.progress.lines.begun }
+    requires script_limit { work.old.progress.lines.begun ≤ 16777216 }
+    requires counted { work.old.counts.lines ≤ work.old.slots.used }
+    requires commits { work.old.counts.commits ≤ work.old.counts.lines }
+
+    ensures ended { IsTrue D.tells → IsTrue S.tells → (site : Site)
+        → Between site [] work.old (D.ledger log.old).last (D.bytes log.old) (D.image log.old)
+        → LinesEnd site (run_text (spaces_of spaces.now) moment (work.old.progress.lines.held ++ S.left source.old) (stands_at work.old site [] []))
+        (work.new.progress.lines.held ++ S.left source.new) work.new era.old.number (D.ledger log.new).last (D.bytes log.new) (D.image log.old) (D.image log.new) result }
+
+    ensures era { era.new.number ≤ era.old.number + 16777217 }
+    ensures era_later { era.old.number ≤ era.new.number }
+    ensures key { era.new.key ≡ era.old.key }
+    ensures area { work.new.slots.area ≡ work.old.slots.area }
+    ensures used { work.new.slots.used ≤ 65536 }
+    ensures waiting { IsBounded 32 work.new.progress.collected }
+    ensures counted { work.new.counts.lines ≤ work.new.slots.used }
+    ensures commits { work.new.counts.commits ≤ work.new.counts.lines }
+
+    ensures may { MayUse era.new (D.ledger log.new) }
+    ensures later { (D.ledger log.old).faults ≤ (D.ledger log.new).faults }
+    ensures taken { IsTrue S.tells → TakesFront (S.left source.old) (S.left source.new) }
+    ensures source_later { S.faults source.old ≤ S.faults source.new }
+    ensures read_fault { result ≡ Stop.ReadFault → Rose (S.faults source.old) (S.faults source.new) }
+    ensures disk_fault { result ≡ Stop.DiskFault → Rose (D.ledger log.old).faults (D.ledger log.new).faults }
+{
+    'lines: loop {
+        if let Some(stop) = turn(log, era, work, buffer, source, spaces, moment) {
+            return stop;
+        }
+    }
+}
+
+/// Appends what is collected at the end of a run, where anything is. `None` where that is done.
+fn append_last<D: Disk>(
+    log: &mut D,
+    era: &mut Era,
+    work: &mut Work,
+    buffer: &mut [u8; 4096],
+) -> Option<Stop>
+    requires may { MayUse era.old (D.ledger log.old) }
+    requires number { era.old.number < 2 ^ 64 - 1 }
+    requires size { work.old.slots.area.size ≡ 128 }
+    requires capacity { work.old.slots.area.capacity ≡ 65536 }
+    requires used { work.old.slots.used ≤ 65536 }
+    requires bounded { IsBounded 32 work.old.progress.collected }
+    requires counted { work.old.counts.lines ≤ work.old.slots.used }
+    requires commits { work.old.counts.commits ≤ work.old.counts.lines }
+
+    ensures ended { IsTrue D.tells → (site : Site) (added : History) (passed : List History) (status : Status)
+        → Between site added work.old (D.ledger log.old).last (D.bytes log.old) (D.image log.old)
+        → LastEnds site added passed (ended status (stands_at work.old site added passed)) status work.old work.new (D.ledger log.new).last (D.bytes log.new)
+        era.old.number (D.image log.old) (D.image log.new) result }
+    ensures stops { IfSome result (λ stop. (stop ≡ Stop.Full) ⊎ (stop ≡ Stop.DiskFault)) }
+    ensures full { result ≡ Some Stop.Full → log.new ≡ log.old }
+    ensures value { IsSome result → work.new ≡ work.old }
+
+    ensures era { era.new.number ≤ era.old.number + 1 }
+    ensures era_later { era.old.number ≤ era.new.number }
+    ensures key { era.new.key ≡ era.old.key }
+    ensures progress { (work.new.progress.lines ≡ work.old.progress.lines) × (work.new.progress.line ≡ work.old.progress.line) }
+    ensures used { work.new.slots.used ≤ 65536 }
+    ensures counted { work.new.counts.lines ≤ work.new.slots.used }
+    ensures commits { work.new.counts.commits ≤ work.new.counts.lines }
+    ensures may { MayUse era.new (D.ledger log.new) }
+    ensures later { (D.ledger log.old).faults ≤ (D.ledger log.new).faults }
+    ensures disk_fault { result ≡ Some Stop.DiskFault → Rose (D.ledger log.old).faults (D.ledger log.new).faults }
+{
+    if work.progress.collected.batch.is_empty() {
+        return None;
+    }
+    match append_collected(log, era, work, buffer) {
+        Ok(()) => None,
+        Err(fault) => Some(stopped_by(fault)),
+    }
+}
+
+/// Runs a script over an open log.
+pub fn run_script<D: Disk, S: Source>(
+    log: &mut D,
+    era: &mut Era,
+    work: &mut Work,
+    buffer: &mut [u8; 4096],
+    source: &mut S,
+    spaces: &[SpaceHead],
+    moment: u64,
+) -> Stop
+    requires may { MayUse era.old (D.ledger log.old) }
+    requires number { era.old.number ≤ 2 ^ 63 + 8 }
+    requires size { work.old.slots.area.size ≡ 128 }
+    requires capacity { work.old.slots.area.capacity ≡ 65536 }
+    requires used { work.old.slots.used ≤ 65536 }
+    requires few { length spaces.now ≤ 16 }
+    requires spaces { AllByRecursion IsSpace (spaces_of spaces.now) }
+    requires moment { moment ≤ 2 ^ 48 }
+    requires bounded { IsBounded 31 work.old.progress.collected }
+    requires line { work.old.progress.line ≤ work.old.progress.lines.begun }
+    requires script_limit { work.old.progress.lines.begun ≤ 16777216 }
+    requires counted { work.old.counts.lines ≤ work.old.slots.used }
+    requires commits { work.old.counts.commits ≤ work.old.counts.lines }
+
+    ensures ended { IsTrue D.tells → IsTrue S.tells → (site : Site)
+        → Between site [] work.old (D.ledger log.old).last (D.bytes log.old) (D.image log.old)
+        → RunEnds site (run_text (spaces_of spaces.now) moment (work.old.progress.lines.held ++ S.left source.old) (stands_at work.old site [] []))
+        (work.new.progress.lines.held ++ S.left source.new) work.new era.old.number (D.ledger log.new).last (D.bytes log.new) (D.image log.old) (D.image log.new) result }
+
+    ensures era { era.new.number ≤ era.old.number + 16777218 }
+    ensures era_later { era.old.number ≤ era.new.number }
+    ensures key { era.new.key ≡ era.old.key }
+    ensures used { work.new.slots.used ≤ 65536 }
+    ensures counted { work.new.counts.lines ≤ work.new.slots.used }
+    ensures commits { work.new.counts.commits ≤ work.new.counts.lines }
+
+    ensures may { MayUse era.new (D.ledger log.new) }
+    ensures later { (D.ledger log.old).faults ≤ (D.ledger log.new).faults }
+    ensures taken { IsTrue S.tells → TakesFront (S.left source.old) (S.left source.new) }
+    ensures source_later { S.faults source.old ≤ S.faults source.new }
+    ensures read_fault { result ≡ Stop.ReadFault → Rose (S.faults source.old) (S.faults source.new) }
+    ensures disk_fault { result ≡ Stop.DiskFault → Rose (D.ledger log.old).faults (D.ledger log.new).faults }
+{
+    match take_lines(log, era, work, buffer, source, spaces, moment) {
+        Stop::End => append_last(log, era, work, buffer).unwrap_or(Stop::End),
+        Stop::Fault { why } => append_last(log, era, work, buffer).unwrap_or(Stop::Fault { why }),
+        stop => stop,
+    }
+}

@@ -1,0 +1,192 @@
+// Running a script: its lines are collected into batches, and each batch is appended at once.
+ghost use Rattle.std.specs.Prelude.{◌≡◌, ◌+◌, ◌-◌, ◌*◌, ◌<◌, ◌≤◌, ◌^◌, ◌++◌, ◌∷◌, [], ℕ, List, length, count_by, IsTrue, ◌⊎◌, Some, IsSome, IfNone, OnOk, OnErr, IsErrOf};
+ghost use Rattle.std.specs.List.{AllByRecursion};
+ghost use Rattle.log_history.specs.History.{History};
+ghost use Rattle.log_record.specs.Entry.{history_of};
+ghost use Rattle.log_record.specs.Layout.{IsRecord};
+ghost use Rattle.site_disk.specs.Causes.{Rose};
+ghost use Rattle.site_disk.specs.Images.{Leaves};
+ghost use Rattle.site_disk.specs.Ledger.{MayUse};
+ghost use Rattle.site_model.specs.Texts.{is_commit_entry};
+ghost use Rattle.site_model.specs.Worlds.{Site};
+ghost use Rattle.onbar_words.specs.Cutting.{TakesFront};
+ghost use Rattle.onbar_words.specs.SpaceHead.{spaces_of};
+ghost use Rattle.site_headers.specs.Heads.{IsSpace};
+ghost use Rattle.onbar_command.specs.Collecting.{IsBounded};
+ghost use Rattle.onbar_command.specs.Turns.{Between, Turns, IsQuiet};
+ghost use Rattle.site_model.specs.LogLaws.{extended};
+ghost use Rattle.onbar_command.specs.Logs.{IsReady, MayHold};
+
+use crate::appending::append_batch;
+use crate::script::{Progress, Step, take_next_line};
+use gated_slots::{AppendFault, Slots};
+use log_record::Record;
+use onbar_words::{SpaceHead, Why};
+use site_disk::{Disk, Era, Source};
+
+/// How many records of a run stand, and how many of them are Commits.
+#[derive(Clone, Copy, Debug, PartialEq, Eq)]
+pub struct Counts {
+    pub lines: u64,
+    pub commits: u64,
+}
+
+/// A run of a script over an open log.
+#[derive(Drop)]
+pub struct Work {
+    pub slots: Slots,
+    pub progress: Progress,
+    pub counts: Counts,
+}
+
+fn count_commits(batch: &[Record]) -> u64
+    ensures count { result ≡ count_by is_commit_entry (history_of batch.now) }
+    ensures bound { result ≤ length batch.now }
+{
+    batch
+        .iter()
+        .filter(|record| matches!(record, Record::Commit { .. }))
+        .count() as u64
+}
+
+/// Appends what is collected, in an era of its own. Nothing is collected then.
+pub fn append_collected<D: Disk>(
+    log: &mut D,
+    era: &mut Era,
+    work: &mut Work,
+    buffer: &mut [u8; 4096],
+) -> Result<(), AppendFault>
+    requires may { MayUse era.old (D.ledger log.old) }
+    requires number { era.old.number < 2 ^ 64 - 1 }
+    requires size { work.old.slots.area.size ≡ 128 }
+    requires capacity { work.old.slots.area.capacity ≡ 65536 }
+    requires some { 0 < length work.old.progress.collected.batch.items }
+    requires bounded { IsBounded 32 work.old.progress.collected }
+    requires counted { work.old.counts.lines ≤ work.old.slots.used }
+    requires used { work.old.slots.used ≤ 65536 }
+    requires commits { work.old.counts.commits ≤ work.old.counts.lines }
+
+    ensures era { era.new.number ≡ era.old.number + 1 }
+    ensures key { era.new.key ≡ era.old.key }
+    ensures collected { OnOk result (work.new.progress.collected.batch.items ≡ []) }
+    ensures open { work.new.progress.collected.open ≡ work.old.progress.collected.open }
+    ensures time { work.new.progress.collected.time ≡ work.old.progress.collected.time }
+    ensures progress { (work.new.progress.lines ≡ work.old.progress.lines) × (work.new.progress.line ≡ work.old.progress.line) }
+    ensures slots { OnOk result (work.new.slots ≡ record work.old.slots { used = work.old.slots.used + length work.old.progress.collected.batch.items }) }
+    ensures counts { OnOk result (work.new.counts.lines ≡ work.old.counts.lines + length work.old.progress.collected.batch.items) }
+    ensures commits { OnOk result (work.new.counts.commits ≡ work.old.counts.commits + count_by is_commit_entry (history_of work.old.progress.collected.batch.items)) }
+    ensures few { OnOk result (work.new.counts.commits ≤ work.new.counts.lines) }
+    ensures value { OnErr result (work.new ≡ work.old) }
+
+    ensures ready { IsTrue D.tells → (site : Site) → IsReady site work.old.slots (D.ledger log.old).last (D.bytes log.old) (D.image log.old)
+        → OnOk result (IsReady (extended site (history_of work.old.progress.collected.batch.items)) work.new.slots (D.ledger log.new).last (D.bytes log.new) (D.image log.new)) }
+    ensures crash { IsTrue D.tells → (site : Site) → IsReady site work.old.slots (D.ledger log.old).last (D.bytes log.old) (D.image log.old)
+        → Leaves era.new.number (MayHold site (history_of work.old.progress.collected.batch.items)) (D.image log.old) (D.image log.new) }
+
+    ensures may { MayUse era.new (D.ledger log.new) }
+    ensures later { (D.ledger log.old).faults ≤ (D.ledger log.new).faults }
+    ensures full { 65536 < work.old.slots.used + length work.old.progress.collected.batch.items
+        → IsErrOf result (AppendFault.Full work.old.slots.used (length work.old.progress.collected.batch.items)) }
+    ensures full_only { (used wanted : ℕ) → IsErrOf result (AppendFault.Full used wanted)
+        → 65536 < work.old.slots.used + length work.old.progress.collected.batch.items }
+    ensures refused { (used wanted : ℕ) → IsErrOf result (AppendFault.Full used wanted) → log.new ≡ log.old }
+    ensures failed { IsErrOf result AppendFault.Failed → Rose (D.ledger log.old).faults (D.ledger log.new).faults }
+{
+    era.next();
+    let batch = &work.progress.collected.batch;
+    let lines = batch.len() as u64;
+    let commits = count_commits(batch);
+    append_batch(log, era, &mut work.slots, batch, buffer)?;
+    work.progress.collected.batch.clear();
+    work.counts.lines += lines;
+    work.counts.commits += commits;
+    Ok(())
+}
+
+/// Why a run stops taking lines.
+#[derive(Clone, Copy, Debug, PartialEq, Eq)]
+pub enum Stop {
+    /// The script has ended.
+    End,
+    /// The present line is refused.
+    Fault { why: Why },
+    /// The batch doesn't fit the log.
+    Full,
+    ReadFault,
+    DiskFault,
+    OutOfMemory,
+}
+
+pub fn stopped_by(fault: AppendFault) -> Stop
+    ensures failed { result ≡ Stop.DiskFault → fault ≡ AppendFault.Failed }
+    ensures full { result ≡ Stop.Full → (used : ℕ) × (wanted : ℕ) × (fault ≡ AppendFault.Full used wanted) }
+    ensures other { (result ≡ Stop.DiskFault) ⊎ (result ≡ Stop.Full) }
+{
+    match fault {
+        AppendFault::Full { .. } => Stop::Full,
+        AppendFault::Failed => Stop::DiskFault,
+    }
+}
+
+/// Takes a line, and appends the batch that it ends. `None` where the run goes on.
+pub fn turn<D: Disk, S: Source>(
+    log: &mut D,
+    era: &mut Era,
+    work: &mut Work,
+    buffer: &mut [u8; 4096],
+    source: &mut S,
+    spaces: &[SpaceHead],
+    moment: u64,
+) -> Option<Stop>
+    requires may { MayUse era.old (D.ledger log.old) }
+    requires number { era.old.number < 2 ^ 64 - 1 }
+    requires size { work.old.slots.area.size ≡ 128 }
+    requires capacity { work.old.slots.area.capacity ≡ 65536 }
+    requires used { work.old.slots.used ≤ 65536 }
+    requires few { length spaces.now ≤ 16 }
+    requires spaces { AllByRecursion IsSpace (spaces_of spaces.now) }
+    requires moment { moment ≤ 2 ^ 48 }
+    requires bounded { IsBounded 31 work.old.progress.collected }
+    requires line { work.old.progress.line ≤ work.old.progress.lines.begun }
+    requires counted { work.old.counts.lines ≤ work.old.slots.used }
+    requires commits { work.old.counts.commits ≤ work.old.counts.lines }
+
+    ensures turned { IsTrue D.tells → IsTrue S.tells → (site : Site) (added : History) (passed : List History)
+        → Between site added work.old (D.ledger log.old).last (D.bytes log.old) (D.image log.old)
+        → Turns (spaces_of spaces.now) moment site added passed (work.old.progress.lines.held ++ S.left source.old) (work.new.progress.lines.held ++ S.left source.new)
+        work.old work.new (D.ledger log.new).last (D.bytes log.new) era.old.number (D.image log.old) (D.image log.new) result }
+    ensures quiet { IsQuiet result → log.new ≡ log.old }
+    ensures value { IsSome result → (work.new.slots ≡ work.old.slots) × (work.new.counts ≡ work.old.counts) }
+
+    ensures era { era.new.number ≤ era.old.number + 1 }
+    ensures era_later { era.old.number ≤ era.new.number }
+    ensures key { era.new.key ≡ era.old.key }
+    ensures area { work.new.slots.area ≡ work.old.slots.area }
+    ensures used { work.new.slots.used ≤ 65536 }
+    ensures bounded { IfNone result (IsBounded 31 work.new.progress.collected) }
+    ensures waiting { IsBounded 32 work.new.progress.collected }
+    ensures line { IfNone result ((work.new.progress.line ≤ work.new.progress.lines.begun) × (work.old.progress.lines.begun + 1 ≤ work.new.progress.lines.begun)) }
+    ensures script_limit { work.new.progress.lines.begun ≤ 16777216 }
+    ensures counted { work.new.counts.lines ≤ work.new.slots.used }
+    ensures commits { work.new.counts.commits ≤ work.new.counts.lines }
+
+    ensures may { MayUse era.new (D.ledger log.new) }
+    ensures later { (D.ledger log.old).faults ≤ (D.ledger log.new).faults }
+    ensures taken { IsTrue S.tells → TakesFront (S.left source.old) (S.left source.new) }
+    ensures source_later { S.faults source.old ≤ S.faults source.new }
+    ensures read_fault { result ≡ Some Stop.ReadFault → Rose (S.faults source.old) (S.faults source.new) }
+    ensures disk_fault { result ≡ Some Stop.DiskFault → Rose (D.ledger log.old).faults (D.ledger log.new).faults }
+{
+    let end = work.slots.used() as u64;
+    match take_next_line(&mut work.progress, source, spaces, end, moment) {
+        Step::More => None,
+        Step::Whole => match append_collected(log, era, work, buffer) {
+            Ok(()) => None,
+            Err(fault) => Some(stopped_by(fault)),
+        },
+        Step::End => Some(Stop::End),
+        Step::Fault { why } => Some(Stop::Fault { why }),
+        Step::ReadFault => Some(Stop::ReadFault),
+        Step::OutOfMemory => Some(Stop::OutOfMemory),
+    }
+}
