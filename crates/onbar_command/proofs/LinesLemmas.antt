@@ -138,6 +138,7 @@ pub record KeepsOn (tells_disk tells_source : Bool) (first_era now_era : EraView
   pub counted : work.counts.lines ≤ work.slots.used
   pub commits : work.counts.commits ≤ work.counts.lines
   pub later : first_ledger.faults ≤ ledger.faults
+  pub read : ledger.read ≤ first_ledger.read
   pub taken : IsTrue tells_source → TakesFront first_left left
   pub source_later : first_faults ≤ faults
 

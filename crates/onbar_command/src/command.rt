@@ -1,5 +1,5 @@
 // The command `onbar`.
-ghost use Rattle.std.specs.Prelude.{◌≡◌, ◌⊎◌, ◌+◌, ◌-◌, ◌<◌, ◌≤◌, ◌^◌, ℕ, Some, length, map, string_bytes, IsTrue, IfOk};
+ghost use Rattle.std.specs.Prelude.{◌≡◌, ◌⊎◌, ◌+◌, ◌*◌, ◌-◌, ◌<◌, ◌≤◌, ◌^◌, ℕ, Some, length, map, string_bytes, IsTrue, IfOk};
 ghost use Rattle.onbar_grammar.specs.Words.{refused_word};
 ghost use Rattle.onbar_words.specs.Cutting.{TakesFront};
 ghost use Rattle.site_disk.specs.Causes.{Rose};
@@ -94,6 +94,15 @@ pub fn onbar<R: Threads + Sync, D: Disk + Send, S: Source, K: Sink>(
     ensures write_fault { result ≡ Status.WriteFault → Rose (K.faults out.old) (K.faults out.new) }
     ensures disk_fault { (name : DiskName) → result ≡ Status.DiskFault name
         → Rose (faults_of D.ledger site.old.disks name) (faults_of D.ledger site.new.disks name) }
+
+    // The catalogue's page and the log are read once; each append begins an era, and writes at most 32 records and a gate.
+    ensures cat_read { (D.ledger site.new.disks.cat).read ≤ (D.ledger site.old.disks.cat).read + 4096 }
+    ensures cat_written { (D.ledger site.new.disks.cat).written ≤ (D.ledger site.old.disks.cat).written }
+    ensures log_read { (D.ledger site.new.disks.log).read ≤ (D.ledger site.old.disks.log).read + 8458240 }
+    ensures log_written { IsTrue D.tells → IsTrue S.tells → (world : World) → IsFit world → StandFor (contents_of D.bytes site.old.disks) world
+        → (D.ledger site.new.disks.log).written + 4097 * era.old.number ≤ (D.ledger site.old.disks.log).written + 4097 * era.new.number }
+    ensures others { (site.new.disks.spare ≡ site.old.disks.spare) × (site.new.disks.boot ≡ site.old.disks.boot)
+        × (site.new.disks.volumes ≡ site.old.disks.volumes) × (site.new.disks.chunks ≡ site.old.disks.chunks) }
 
     ensures era { era.new.number ≤ era.old.number + 2 ^ 40 }
     ensures era_later { era.old.number < era.new.number }

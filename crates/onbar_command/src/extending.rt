@@ -1,5 +1,5 @@
 // A script of transactions extends the log of a formatted site.
-ghost use Rattle.std.specs.Prelude.{◌≡◌, ◌+◌, ◌<◌, ◌≤◌, ◌^◌, ◌++◌, [], ℕ, List, length, IsTrue, IfOk, OnErr, IsErrOf, IfErr};
+ghost use Rattle.std.specs.Prelude.{◌≡◌, ◌+◌, ◌*◌, ◌<◌, ◌≤◌, ◌^◌, ◌++◌, [], ℕ, List, length, IsTrue, IfOk, OnErr, IsErrOf, IfErr};
 ghost use Rattle.log_history.specs.Transactions.{InOrder};
 ghost use Rattle.onbar_words.specs.Cutting.{TakesFront};
 ghost use Rattle.site_disk.specs.Causes.{Rose};
@@ -141,6 +141,9 @@ pub fn extend_log<D: Disk, S: Source>(
     ensures key { era.new.key ≡ era.old.key }
     ensures may { MayUse era.new (D.ledger log.new) }
     ensures later { (D.ledger log.old).faults ≤ (D.ledger log.new).faults }
+    ensures read { (D.ledger log.new).read ≤ (D.ledger log.old).read + 8458240 }
+    ensures written { IsTrue D.tells → IsTrue S.tells → (site : Site) → site.head ≡ head_of head.now → InOrder site.history → HoldsLog site (D.bytes log.old)
+        → (D.ledger log.new).written + 4097 * era.old.number ≤ (D.ledger log.old).written + 4097 * era.new.number }
     ensures taken { IsTrue S.tells → TakesFront (S.left source.old) (S.left source.new) }
     ensures source_later { S.faults source.old ≤ S.faults source.new }
     ensures read_fault { IsErrOf result Status.ReadFault → Rose (S.faults source.old) (S.faults source.new) }

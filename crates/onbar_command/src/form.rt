@@ -1,5 +1,5 @@
 // The form `-T` over the disks of a site.
-ghost use Rattle.std.specs.Prelude.{◌≡◌, ◌⊎◌, ◌+◌, ◌-◌, ◌<◌, ◌≤◌, ◌^◌, ℕ, List, None, Some, length, map, string_bytes, IsTrue, OnOk, OnErr, IfOk, IsErrOf};
+ghost use Rattle.std.specs.Prelude.{◌≡◌, ◌⊎◌, ◌+◌, ◌*◌, ◌-◌, ◌<◌, ◌≤◌, ◌^◌, ℕ, List, None, Some, length, map, string_bytes, IsTrue, OnOk, OnErr, IfOk, IsErrOf};
 ghost use Rattle.onbar_grammar.specs.Words.{refused_word};
 ghost use Rattle.onbar_words.specs.Cutting.{TakesFront};
 ghost use Rattle.site_disk.specs.Causes.{Rose};
@@ -41,6 +41,8 @@ fn sync_both<D: Disk>(cat: &mut D, log: &mut D, era: &Era) -> Result<(), DiskNam
         → ((D.ledger log.new).synced ≡ (D.ledger log.old).synced) × Rose (D.ledger log.old).faults (D.ledger log.new).faults }
     ensures before_log { IsTrue D.tells → IsErrOf result DiskName.Log → OnlyAfter era.now.number (D.bytes cat.old) (D.image cat.new) }
 
+    ensures cat_bytes_moved { ((D.ledger cat.new).read ≡ (D.ledger cat.old).read) × ((D.ledger cat.new).written ≡ (D.ledger cat.old).written) }
+    ensures log_bytes_moved { ((D.ledger log.new).read ≡ (D.ledger log.old).read) × ((D.ledger log.new).written ≡ (D.ledger log.old).written) }
     ensures cat_may { MayUse era.now (D.ledger cat.new) }
     ensures log_may { MayUse era.now (D.ledger log.new) }
     ensures cat_later { (D.ledger cat.old).faults ≤ (D.ledger cat.new).faults }
@@ -84,6 +86,11 @@ pub fn run_transactions<D: Disk, S: Source>(
     ensures log_may { MayUse era.new (D.ledger site.new.disks.log) }
     ensures others { (site.new.disks.spare ≡ site.old.disks.spare) × (site.new.disks.boot ≡ site.old.disks.boot)
         × (site.new.disks.volumes ≡ site.old.disks.volumes) × (site.new.disks.chunks ≡ site.old.disks.chunks) }
+    ensures cat_read { (D.ledger site.new.disks.cat).read ≤ (D.ledger site.old.disks.cat).read + 4096 }
+    ensures cat_written { (D.ledger site.new.disks.cat).written ≤ (D.ledger site.old.disks.cat).written }
+    ensures log_read { (D.ledger site.new.disks.log).read ≤ (D.ledger site.old.disks.log).read + 8458240 }
+    ensures log_written { IsTrue D.tells → IsTrue S.tells → (world : World) → IsFit world → StandFor (contents_of D.bytes site.old.disks) world
+        → (D.ledger site.new.disks.log).written + 4097 * era.old.number ≤ (D.ledger site.old.disks.log).written + 4097 * era.new.number }
     ensures taken { IsTrue S.tells → TakesFront (S.left source.old) (S.left source.new) }
     ensures source_later { S.faults source.old ≤ S.faults source.new }
     ensures read_fault { IsErrOf result Status.ReadFault → Rose (S.faults source.old) (S.faults source.new) }
@@ -140,6 +147,13 @@ pub fn run_words<D: Disk, S: Source>(
     ensures era_later { era.old.number ≤ era.new.number }
     ensures key { era.new.key ≡ era.old.key }
     ensures may { MayUseAll D.ledger era.new site.new.disks }
+    ensures others { (site.new.disks.spare ≡ site.old.disks.spare) × (site.new.disks.boot ≡ site.old.disks.boot)
+        × (site.new.disks.volumes ≡ site.old.disks.volumes) × (site.new.disks.chunks ≡ site.old.disks.chunks) }
+    ensures cat_read { (D.ledger site.new.disks.cat).read ≤ (D.ledger site.old.disks.cat).read + 4096 }
+    ensures cat_written { (D.ledger site.new.disks.cat).written ≤ (D.ledger site.old.disks.cat).written }
+    ensures log_read { (D.ledger site.new.disks.log).read ≤ (D.ledger site.old.disks.log).read + 8458240 }
+    ensures log_written { IsTrue D.tells → IsTrue S.tells → (world : World) → IsFit world → StandFor (contents_of D.bytes site.old.disks) world
+        → (D.ledger site.new.disks.log).written + 4097 * era.old.number ≤ (D.ledger site.old.disks.log).written + 4097 * era.new.number }
     ensures taken { IsTrue S.tells → TakesFront (S.left source.old) (S.left source.new) }
     ensures source_later { S.faults source.old ≤ S.faults source.new }
     ensures read_fault { IsErrOf result Status.ReadFault → Rose (S.faults source.old) (S.faults source.new) }

@@ -20,3 +20,6 @@ mod transactions;
 pub use command::onbar;
 pub use formatting::SiteFault;
 pub use site::{Site, SiteDisks};
+
+#[cfg(test)]
+mod tests;

@@ -1,5 +1,5 @@
 // The lines of a script up to its end or a fault, and the last batch.
-ghost use Rattle.std.specs.Prelude.{◌≡◌, ◌+◌, ◌-◌, ◌<◌, List, Some, IsSome, IfSome, ◌≤◌, ◌^◌, ◌++◌, ◌⊎◌, [], length, IsTrue};
+ghost use Rattle.std.specs.Prelude.{◌≡◌, ◌+◌, ◌*◌, ◌-◌, ◌<◌, List, Some, IsSome, IfSome, ◌≤◌, ◌^◌, ◌++◌, ◌⊎◌, [], length, IsTrue};
 ghost use Rattle.std.specs.List.{AllByRecursion};
 ghost use Rattle.log_history.specs.History.{History};
 ghost use Rattle.onbar_words.specs.Cutting.{TakesFront};
@@ -57,6 +57,9 @@ fn take_lines<D: Disk, S: Source>(
     ensures counted { work.new.counts.lines ≤ work.new.slots.used }
     ensures commits { work.new.counts.commits ≤ work.new.counts.lines }
 
+    ensures read { (D.ledger log.new).read ≤ (D.ledger log.old).read }
+    ensures written { IsTrue D.tells → IsTrue S.tells → (site : Site) → Between site [] work.old (D.ledger log.old).last (D.bytes log.old) (D.image log.old)
+        → (D.ledger log.new).written + 4097 * era.old.number ≤ (D.ledger log.old).written + 4097 * era.new.number }
     ensures may { MayUse era.new (D.ledger log.new) }
     ensures later { (D.ledger log.old).faults ≤ (D.ledger log.new).faults }
     ensures taken { IsTrue S.tells → TakesFront (S.left source.old) (S.left source.new) }
@@ -102,6 +105,9 @@ fn append_last<D: Disk>(
     ensures used { work.new.slots.used ≤ 65536 }
     ensures counted { work.new.counts.lines ≤ work.new.slots.used }
     ensures commits { work.new.counts.commits ≤ work.new.counts.lines }
+    ensures read { (D.ledger log.new).read ≤ (D.ledger log.old).read }
+    ensures written { IsTrue D.tells → (site : Site) (added : History) → Between site added work.old (D.ledger log.old).last (D.bytes log.old) (D.image log.old)
+        → (D.ledger log.new).written + 4097 * era.old.number ≤ (D.ledger log.old).written + 4097 * era.new.number }
     ensures may { MayUse era.new (D.ledger log.new) }
     ensures later { (D.ledger log.old).faults ≤ (D.ledger log.new).faults }
     ensures disk_fault { result ≡ Some Stop.DiskFault → Rose (D.ledger log.old).faults (D.ledger log.new).faults }
@@ -151,6 +157,9 @@ pub fn run_script<D: Disk, S: Source>(
     ensures counted { work.new.counts.lines ≤ work.new.slots.used }
     ensures commits { work.new.counts.commits ≤ work.new.counts.lines }
 
+    ensures read { (D.ledger log.new).read ≤ (D.ledger log.old).read }
+    ensures written { IsTrue D.tells → IsTrue S.tells → (site : Site) → Between site [] work.old (D.ledger log.old).last (D.bytes log.old) (D.image log.old)
+        → (D.ledger log.new).written + 4097 * era.old.number ≤ (D.ledger log.old).written + 4097 * era.new.number }
     ensures may { MayUse era.new (D.ledger log.new) }
     ensures later { (D.ledger log.old).faults ≤ (D.ledger log.new).faults }
     ensures taken { IsTrue S.tells → TakesFront (S.left source.old) (S.left source.new) }

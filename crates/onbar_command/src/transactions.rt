@@ -83,6 +83,9 @@ pub fn append_collected<D: Disk>(
     ensures crash { IsTrue D.tells → (site : Site) → IsReady site work.old.slots (D.ledger log.old).last (D.bytes log.old) (D.image log.old)
         → Leaves era.new.number (MayHold site (history_of work.old.progress.collected.batch.items)) (D.image log.old) (D.image log.new) }
 
+    ensures read { (D.ledger log.new).read ≤ (D.ledger log.old).read }
+    ensures written { IsTrue D.tells → (site : Site) → IsReady site work.old.slots (D.ledger log.old).last (D.bytes log.old) (D.image log.old)
+        → (D.ledger log.new).written ≤ (D.ledger log.old).written + 4097 }
     ensures may { MayUse era.new (D.ledger log.new) }
     ensures later { (D.ledger log.old).faults ≤ (D.ledger log.new).faults }
     ensures full { 65536 < work.old.slots.used + length work.old.progress.collected.batch.items
@@ -170,6 +173,9 @@ pub fn turn<D: Disk, S: Source>(
     ensures counted { work.new.counts.lines ≤ work.new.slots.used }
     ensures commits { work.new.counts.commits ≤ work.new.counts.lines }
 
+    ensures read { (D.ledger log.new).read ≤ (D.ledger log.old).read }
+    ensures written { IsTrue D.tells → (site : Site) (added : History) → Between site added work.old (D.ledger log.old).last (D.bytes log.old) (D.image log.old)
+        → (D.ledger log.new).written + 4097 * era.old.number ≤ (D.ledger log.old).written + 4097 * era.new.number }
     ensures may { MayUse era.new (D.ledger log.new) }
     ensures later { (D.ledger log.old).faults ≤ (D.ledger log.new).faults }
     ensures taken { IsTrue S.tells → TakesFront (S.left source.old) (S.left source.new) }

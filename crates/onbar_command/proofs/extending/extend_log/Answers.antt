@@ -53,3 +53,19 @@ returns-clause-extended g c tells_disk tells_source site head order holds later 
     ending (run.ended tells_disk tells_source site between) in
     rw c.report.ensures.told (extends_to site (run_text site.head.spaces c.args.moment left (first_place site.history)) c.run_script-stop.new.work.progress.lines.held (g.S.Source.left c.run_script-stop.new.source)
     c.run_script-stop.new.work e _ c.run_script-stop.new.era.number _ _ _ _ run.may.not_past nothing c.run_script-stop.result ends)
+
+pub returns-clause-written : goal.returns-clause-written
+returns-clause-written g c tells_disk tells_source site head order holds =
+    let call = c.in-Ok.ensures in
+    let begun = c.begin_work-work.ensures in
+    let work = c.begin_work-work.result in
+    let opened = call.opened tells_disk site (ap (λ (h : Head). h.site) head) order holds in
+    let same : record site { history = site.history ++ [] } ≡ site = ap (λ (h : History). record site { history = h }) (append-nil site.history) in
+    let ready = subst (λ (s : Site). IsReady s c.in-Ok.opened.slots (g.D.Disk.ledger c.open_log.new.disk).last (g.D.Disk.bytes c.open_log.new.disk) (g.D.Disk.image c.open_log.new.disk)) (sym same) opened.1 in
+    let between : Between site [] work (g.D.Disk.ledger c.open_log.new.disk).last (g.D.Disk.bytes c.open_log.new.disk) (g.D.Disk.image c.open_log.new.disk) = record {
+      ready = rw begun.slots ready;
+      lines = ap (λ (k : Counts). k.lines) begun.counts;
+      commits = ap (λ (k : Counts). k.commits) begun.counts;
+    } in
+    let written = c.run_script-stop.ensures.written tells_disk tells_source site between in
+    omega (arith, written, call.ledger.written)

@@ -103,3 +103,13 @@ returns-clause-finishes g c tells_disk tells_source (formatted site) fit stand =
     (g.D.Disk.image c.sync_both.new.log) (g.S.Source.left c.extend_log.new.source) c.extend_log.result told
     (subst (λ (d : List ℕ). HasHeader (catalogue_tail site.head) d) (sym (read.bytes ∙ call.cat_bytes)) (stand Cat))
     (λ f d lt is. subst (λ (x : List ℕ). HasHeader (catalogue_tail site.head) x) (sym (call.cat_only tells_disk f d (omega (arith, c.next-2.ensures.number, c.extend_log.ensures.era_later)) (none f d is))) (stand Cat))
+
+pub returns-clause-log_written : goal.returns-clause-log_written
+returns-clause-log_written g c tells_disk tells_source unformatted fit stand =
+    let read = c.in-Ok.ensures in
+    absurd (stand Cat (head_of c.in-Ok.head) read.head (subst (λ (d : List ℕ). HasHeader (catalogue_tail (head_of c.in-Ok.head)) d) c.in_default.ensures.cat_bytes (read.found tells_disk)))
+returns-clause-log_written g c tells_disk tells_source (formatted site) fit stand =
+    let call = c.in_default.ensures in
+    let head_is : head_of c.in-Ok.head ≡ site.head = c.in-Ok.ensures.only tells_disk site.head fit.head (subst (λ (d : List ℕ). HasHeader (catalogue_tail site.head) d) (sym call.cat_bytes) (stand Cat)) in
+    let written = c.extend_log.ensures.written tells_disk tells_source site (sym head_is) fit.order (subst (λ (x : List ℕ). HoldsLog site x) (sym call.log_bytes) (stand Log)) in
+    omega (arith, written, call.log_bytes_moved.1, c.next.ensures.number, c.next-2.ensures.number)

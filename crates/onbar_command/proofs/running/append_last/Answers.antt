@@ -99,3 +99,11 @@ returns-in-Err-clause-ended g c tells site added passed status between =
           subst (Comes c.append_collected.new.work) (sym full) (at_old Full (ended_full status place above some
           ∙ ap (λ (n : ℕ). ends_at (LogFull (Positions n)) place) (sym between.ready.used)))
     ]
+
+pub returns-in-Ok-clause-written : goal.returns-in-Ok-clause-written
+returns-in-Ok-clause-written g c tells site added between =
+    let written = c.in-Ok.ensures.written tells (extended site added) between.ready in omega (arith, written, c.in-Ok.ensures.era)
+
+pub returns-in-Err-clause-written : goal.returns-in-Err-clause-written
+returns-in-Err-clause-written g c tells site added between =
+    let written = c.in-Err.ensures.written tells (extended site added) between.ready in omega (arith, written, c.in-Err.ensures.era)

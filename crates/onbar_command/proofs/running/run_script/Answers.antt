@@ -66,6 +66,28 @@ returns-in-Fault-clause-ended g c tells_disk tells_source site between =
       λ f image is. subst (λ log. g.D.Disk.image log f image) same is,
     )))
 
+pub returns-in-End-clause-written : goal.returns-in-End-clause-written
+returns-in-End-clause-written g c tells_disk tells_source site between =
+    let lines = c.take_lines.ensures in
+    let ending = run_text (spaces_of c.args.spaces.now) c.args.moment (c.args.work.now.progress.lines.held ++ g.S.Source.left c.args.source.now) (stands_at c.args.work.now site [] []) in
+    let after : Work → List ℕ = λ work. work.progress.lines.held ++ g.S.Source.left c.take_lines.new.source in
+    let ended_so = subst (λ (stop : Stop). LinesEnd site ending (after c.take_lines.new.work) c.take_lines.new.work c.args.era.now.number
+    (g.D.Disk.ledger c.take_lines.new.log).last (g.D.Disk.bytes c.take_lines.new.log) (g.D.Disk.image c.args.log.now) (g.D.Disk.image c.take_lines.new.log) stop) c.in-End.is (lines.ended tells_disk tells_source site between) in
+    let so_far = lines.written tells_disk tells_source site between in
+    let more = c.append_last.ensures.written tells_disk site ended_so.1.added ended_so.1.holds.between in
+    omega (arith, so_far, more)
+
+pub returns-in-Fault-clause-written : goal.returns-in-Fault-clause-written
+returns-in-Fault-clause-written g c tells_disk tells_source site between =
+    let lines = c.take_lines.ensures in
+    let ending = run_text (spaces_of c.args.spaces.now) c.args.moment (c.args.work.now.progress.lines.held ++ g.S.Source.left c.args.source.now) (stands_at c.args.work.now site [] []) in
+    let after : Work → List ℕ = λ work. work.progress.lines.held ++ g.S.Source.left c.take_lines.new.source in
+    let stops = subst (λ (stop : Stop). LinesEnd site ending (after c.take_lines.new.work) c.take_lines.new.work c.args.era.now.number
+    (g.D.Disk.ledger c.take_lines.new.log).last (g.D.Disk.bytes c.take_lines.new.log) (g.D.Disk.image c.args.log.now) (g.D.Disk.image c.take_lines.new.log) stop) c.in-Fault.is (lines.ended tells_disk tells_source site between) in
+    let so_far = lines.written tells_disk tells_source site between in
+    let more = c.append_last-in-Fault.ensures.written tells_disk site stops.added stops.holds.between in
+    omega (arith, so_far, more)
+
 pub returns-in_default : goal.returns-in_default
 returns-in_default g c =
     let lines = c.take_lines.ensures in
@@ -80,6 +102,8 @@ returns-in_default g c =
       commits = lines.commits;
       may = lines.may;
       later = lines.later;
+      read = lines.read;
+      written = lines.written;
       taken = lines.taken;
       source_later = lines.source_later;
       read_fault = lines.read_fault;

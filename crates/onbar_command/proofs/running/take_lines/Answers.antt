@@ -20,8 +20,10 @@ lines-init g c = record {
     later = omega arith;
     taken = λ tells. ([], refl);
     source_later = omega arith;
+    read = omega arith;
   };
   way = λ tells_disk tells_source site between. record { added = []; passed = []; holds = starts site _ _ _ _ _ c.requires.may.not_past between; is = refl };
+  written = λ tells_disk tells_source site between. omega arith;
 }
 
 pub lines-preserved : goal.lines-preserved
@@ -44,13 +46,26 @@ lines-preserved g c =
         later = omega (arith, before.later, call.later);
         taken = λ tells. front_again _ _ _ (before.taken tells) (call.taken tells);
         source_later = omega (arith, before.source_later, call.source_later);
+        read = omega (arith, before.read, call.read);
       };
       way = λ tells_disk tells_source site between.
           let way = c.lines.invariant.way tells_disk tells_source site between in
           let goes = call.turned tells_disk tells_source site way.added way.passed way.holds.between in
           let further = goes_further site way.added way.passed c.args.era.now.number c.lines.era.number _ _ _ before.era_later _ _ _ way.holds _ _ _ _ _ goes in
           record { added = further.added; passed = further.passed; holds = further.holds; is = way.is ∙ further.is };
+      written = λ tells_disk tells_source site between.
+          let way = c.lines.invariant.way tells_disk tells_source site between in
+          let so_far = c.lines.invariant.written tells_disk tells_source site between in
+          let more = call.written tells_disk site way.added way.holds.between in
+          omega (arith, so_far, more);
     }
+
+pub returns-in-Some-clause-written : goal.returns-in-Some-clause-written
+returns-in-Some-clause-written g c tells_disk tells_source site between =
+    let way = c.lines.invariant.way tells_disk tells_source site between in
+    let so_far = c.lines.invariant.written tells_disk tells_source site between in
+    let more = c.in-Some.ensures.written tells_disk site way.added way.holds.between in
+    omega (arith, so_far, more)
 
 pub returns-in-Some-clause-taken : goal.returns-in-Some-clause-taken
 returns-in-Some-clause-taken g c tells = front_again _ _ _ (c.lines.invariant.keeps.taken tells) (c.in-Some.ensures.taken tells)

@@ -1,4 +1,4 @@
-use Rattle.std.proofs.Common.{◌-◌, ◌++◌, [], IsTrue}
+use Rattle.std.proofs.Common.{◌-◌, ◌+◌, ◌*◌, ◌≤◌, ◌++◌, [], IsTrue}
 use Rattle.onbar_words.specs.SpaceHead.{spaces_of}
 use Rattle.site_model.specs.Worlds.{Site}
 use Rattle.onbar_command.specs.Scripts.{run_text}
@@ -14,6 +14,8 @@ invariant-lines g l = record {
       → UnderWay site (run_text (spaces_of l.spaces) l.moment (l.fn.work.progress.lines.held ++ g.S.Source.left l.fn.source) (stands_at l.fn.work site [] []))
       (run_text (spaces_of l.spaces) l.moment (l.work.progress.lines.held ++ g.S.Source.left l.source)) l.work l.fn.era.number
       (g.D.Disk.ledger l.log).last (g.D.Disk.bytes l.log) (g.D.Disk.image l.fn.log) (g.D.Disk.image l.log);
+  written : IsTrue g.D.Disk.tells → IsTrue g.S.Source.tells → (site : Site) → Between site [] l.fn.work (g.D.Disk.ledger l.fn.log).last (g.D.Disk.bytes l.fn.log) (g.D.Disk.image l.fn.log)
+      → (g.D.Disk.ledger l.log).written + 4097 * l.fn.era.number ≤ (g.D.Disk.ledger l.fn.log).written + 4097 * l.era.number;
 }
 
 abbrev pub decreases-lines : goal.decreases-lines

@@ -104,3 +104,11 @@ returns-in-Err-clause-turned g c tells_disk tells_source site added passed betwe
           subst (Comes c.append_collected.new.work) (sym full) (at_mid Full (stepped ∙ ends_full run place above some
           ∙ ap (λ (n : ℕ). ends_at (LogFull (Positions n)) place) (sym between.ready.used)))
     ]
+
+pub returns-in-Ok-clause-written : goal.returns-in-Ok-clause-written
+returns-in-Ok-clause-written g c tells site added between =
+    let written = c.in-Ok.ensures.written tells (extended site added) between.ready in omega (arith, written, c.in-Ok.ensures.era)
+
+pub returns-in-Err-clause-written : goal.returns-in-Err-clause-written
+returns-in-Err-clause-written g c tells site added between =
+    let written = c.in-Err.ensures.written tells (extended site added) between.ready in omega (arith, written, c.in-Err.ensures.era)
