@@ -9,17 +9,18 @@ use Rattle.site_headers.specs.Headers.{HasHeader, catalogue_tail}
 use Rattle.site_model.specs.declared.disk_name.DiskName.{DiskName}
 use Rattle.site_model.specs.declared.disk_name.DiskName.TheVariants.{Cat, Spare, Boot, Log, Volume, Chunk}
 use Rattle.site_model.specs.declared.status.Status.{Status}
-use Rattle.site_model.specs.Commands.{IsAmong, IsPassed, frame_of}
+use Rattle.site_model.specs.Commands.{IsAmong, IsPassed, frame_of, IsSound}
 use Rattle.site_model.specs.Layouts.{Shows, StandFor, HoldsLog, HasNoCatalogue}
 use Rattle.site_model.specs.Runs.{Run, Ending, run_of, run_form, run_lines, first_place, transactions}
 use Rattle.site_model.specs.Steps.{Passes, StandsAmong, ShowsOrRests}
+use Rattle.site_model.specs.Stops.{KeepsPromise, promise}
 use Rattle.site_model.specs.Texts.{counts_text, extension_text, status_text, is_commit_entry}
 use Rattle.site_model.specs.Worlds.{Site, World, unformatted, formatted, with_history, IsFit}
 use Rattle.onbar_command.specs.declared.extending.Extended.{Extended}
 use Rattle.onbar_command.specs.declared.formatted.HeadFault.{HeadFault}
 use Rattle.onbar_command.specs.declared.formatted.HeadFault.TheVariants.{NotFormatted as HeadMissing, Failed as HeadFailed, OutOfMemory as HeadMemory}
 use Rattle.onbar_command.specs.declared.site.SiteDisks.{SiteDisks}
-use Rattle.onbar_command.specs.Disks.{contents_of, images_of, disk_of, may_or, MayUseAll, Rests}
+use Rattle.onbar_command.specs.Disks.{bytes_or, contents_of, disk_of, image_or, images_of, may_or, scene_of, MayUseAll, Rests}
 use Rattle.onbar_command.specs.Extending.{ExtendsTo, head_status}
 use Rattle.onbar_command.specs.Forms.{Finishes}
 use Rattle.onbar_command.specs.Walks.{IsOneOf, IsOnTheWay, LogWalk}
@@ -182,3 +183,22 @@ passes_still image ledger entry disks world run = record {
   earlier = λ f name bytes le is. is;
   later = λ f lt choice images. (world, inl refl, λ name. inr (refl, images name));
 }
+
+-- the promise on stops in plain words, over disks that keep the laws of images
+module _ {D : Type 0} (bytes : D → List ℕ) (image : D → ℕ → List ℕ → Type 0) (ledger : D → Ledger) (era : EraView)
+    (reads : (disk : D) (f : ℕ) → (ledger disk).last ≤ f → image disk f (bytes disk))
+    (counts : (disk : D) (f g : ℕ) (c : List ℕ) → (ledger disk).last ≤ f → (ledger disk).last < g → image disk g c → image disk f c) where
+  reads_or : (disk : Option D) → may_or ledger era disk → image_or image era.number disk (bytes_or bytes disk)
+  reads_or None may = refl
+  reads_or (Some disk) may = reads disk era.number may.not_past
+
+  counts_or : (disk : Option D) → may_or ledger era disk → (f : ℕ) (c : List ℕ) → era.number < f → image_or image f disk c → image_or image era.number disk c
+  counts_or None may f c lt is = is
+  counts_or (Some disk) may f c lt is = let past = may.not_past in counts disk era.number f c past (omega arith) is
+
+  pub promised_so : (old new : SiteDisks D) (world : World) (run : Run) → MayUseAll ledger era old
+      → Passes (frame_of era.number (images_of image old) (Rests ledger old new) (IsPassed world run)) (images_of image new)
+      → IsSound era.number (images_of image old) → KeepsPromise (scene_of bytes image ledger era.number old new world run)
+  promised_so old new world run may passes sound =
+      promise (scene_of bytes image ledger era.number old new world run) passes sound
+      (λ name. reads_or (disk_of old name) (may name)) (λ f name c lt is. counts_or (disk_of old name) (may name) f c lt is)

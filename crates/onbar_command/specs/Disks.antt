@@ -3,7 +3,10 @@ use Rattle.std.specs.Prelude.{◌≡◌, ℕ, List, [], slice_get, Option, None,
 use Rattle.site_disk.specs.Ledger.{EraView, Ledger, MayUse}
 use Rattle.site_model.specs.declared.disk_name.DiskName.{DiskName}
 use Rattle.site_model.specs.declared.disk_name.DiskName.TheVariants.{Cat, Spare, Boot, Log, Volume, Chunk}
+use Rattle.site_model.specs.Runs.{Run}
 use Rattle.site_model.specs.Steps.{ImagesOf}
+use Rattle.site_model.specs.Stops.{Scene}
+use Rattle.site_model.specs.Worlds.{World}
 use Rattle.onbar_command.specs.declared.site.SiteDisks.{SiteDisks}
 
 module _ {D : Type 0} where
@@ -53,3 +56,15 @@ module _ {D : Type 0} where
   -- all disks have the era's key, and none has used a later era
   abbrev pub MayUseAll : (D → Ledger) → EraView → SiteDisks D → Type 0
   MayUseAll ledger era disks = (name : DiskName) → may_or ledger era (disk_of disks name)
+
+  -- a command from one era on: what it makes of a world, and the disks before and after it
+  abbrev pub scene_of : (D → List ℕ) → (D → ℕ → List ℕ → Type 0) → (D → Ledger) → ℕ → SiteDisks D → SiteDisks D → World → Run → Scene
+  scene_of bytes image ledger entry old new world run = record {
+    entry = entry;
+    old = images_of image old;
+    new = images_of image new;
+    contents = contents_of bytes old;
+    rests = Rests ledger old new;
+    begin = world;
+    run = run;
+  }

@@ -4,12 +4,13 @@ ghost use Rattle.onbar_grammar.specs.Words.{refused_word};
 ghost use Rattle.onbar_words.specs.Cutting.{TakesFront};
 ghost use Rattle.site_disk.specs.Causes.{Rose};
 ghost use Rattle.site_model.specs.declared.disk_name.DiskName.{DiskName};
-ghost use Rattle.site_model.specs.Commands.{CutsShort, Did, IsPassed, Printed, ReadsOf, frame_of};
+ghost use Rattle.site_model.specs.Commands.{CutsShort, Did, IsPassed, IsSound, Printed, ReadsOf, frame_of};
 ghost use Rattle.site_model.specs.Layouts.{StandFor};
 ghost use Rattle.site_model.specs.Runs.{run};
 ghost use Rattle.site_model.specs.Steps.{Passes};
+ghost use Rattle.site_model.specs.Stops.{KeepsPromise};
 ghost use Rattle.site_model.specs.Worlds.{World, IsFit};
-ghost use Rattle.onbar_command.specs.Disks.{contents_of, images_of, faults_of, Rests, MayUseAll};
+ghost use Rattle.onbar_command.specs.Disks.{contents_of, images_of, faults_of, scene_of, Rests, MayUseAll};
 ghost use Rattle.onbar_command.specs.Forms.{text_told, status_told};
 
 use crate::extending::Extended;
@@ -65,10 +66,14 @@ pub fn onbar<R: Threads + Sync, D: Disk + Send, S: Source, K: Sink>(
     requires number { era.old.number ≤ 2 ^ 63 }
     requires moment { moment ≤ 253402300799 }
 
-    // Wherever the command is stopped, each choice of crash images stands for a world of its run; see `stops_are_listed`.
+    // Wherever the command is stopped, each choice of crash images stands for a world of its run.
     ensures stopped { IsTrue D.tells → IsTrue S.tells → (world : World) → IsFit world → StandFor (contents_of D.bytes site.old.disks) world
         → Passes (frame_of era.old.number (images_of D.image site.old.disks) (Rests D.ledger site.old.disks site.new.disks)
         (IsPassed world (run (map string_bytes words.now) moment world (S.left script.old)))) (images_of D.image site.new.disks) }
+    // The same in plain words, where the crash images at entry stand for fit worlds.
+    ensures promised { IsTrue D.tells → IsTrue S.tells → (world : World) → IsFit world → StandFor (contents_of D.bytes site.old.disks) world
+        → IsSound era.old.number (images_of D.image site.old.disks)
+        → KeepsPromise (scene_of D.bytes D.image D.ledger era.old.number site.old.disks site.new.disks world (run (map string_bytes words.now) moment world (S.left script.old))) }
     // At any status but those that cut it short it did what its run says: status, text, disks, and what a crash leaves.
     ensures whole { IsTrue D.tells → IsTrue S.tells → IsTrue K.tells → (world : World) → IsFit world → StandFor (contents_of D.bytes site.old.disks) world
         → (CutsShort result → ⊥)

@@ -26,7 +26,6 @@ use site_disk::{Disk, Era, Source};
 use site_headers::SiteHead;
 use site_model::{DiskName, LogFull, Status};
 use std::alloc::Global;
-use std::vec::Vec;
 
 /// How far a script went: its records that stand, the end of the log, and how the run ended.
 #[derive(Debug, Drop)]
@@ -72,17 +71,12 @@ fn begin_work(alloc: Global, opened: OpenLog) -> Work
 {
     let OpenLog { slots, state } = opened;
     let LogState { open, time, .. } = state;
-    let collected = Collected {
-        batch: Vec::new(alloc),
-        open,
-        time,
-    };
     Work {
         slots,
         progress: Progress {
             lines: Lines::new(alloc),
             line: 0,
-            collected,
+            collected: Collected::new(alloc, open, time),
         },
         counts: Counts {
             lines: 0,

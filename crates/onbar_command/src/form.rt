@@ -6,12 +6,13 @@ ghost use Rattle.site_disk.specs.Causes.{Rose};
 ghost use Rattle.site_disk.specs.Images.{OnlyAfter};
 ghost use Rattle.site_disk.specs.Ledger.{MayUse};
 ghost use Rattle.site_model.specs.declared.disk_name.DiskName.{DiskName};
-ghost use Rattle.site_model.specs.Commands.{IsPassed, frame_of};
+ghost use Rattle.site_model.specs.Commands.{IsPassed, IsSound, frame_of};
 ghost use Rattle.site_model.specs.Layouts.{StandFor};
 ghost use Rattle.site_model.specs.Runs.{run, run_form};
 ghost use Rattle.site_model.specs.Steps.{Passes};
+ghost use Rattle.site_model.specs.Stops.{KeepsPromise};
 ghost use Rattle.site_model.specs.Worlds.{World, IsFit};
-ghost use Rattle.onbar_command.specs.Disks.{contents_of, images_of, faults_of, Rests, MayUseAll};
+ghost use Rattle.onbar_command.specs.Disks.{contents_of, images_of, faults_of, scene_of, Rests, MayUseAll};
 ghost use Rattle.onbar_command.specs.Forms.{Finishes, IsNoStop};
 
 use crate::extending::{Extended, extend_log, head_status};
@@ -136,6 +137,9 @@ pub fn run_words<D: Disk, S: Source>(
     ensures passes { IsTrue D.tells → IsTrue S.tells → (world : World) → IsFit world → StandFor (contents_of D.bytes site.old.disks) world
         → Passes (frame_of era.old.number (images_of D.image site.old.disks) (Rests D.ledger site.old.disks site.new.disks)
         (IsPassed world (run (map string_bytes words.now) moment world (S.left source.old)))) (images_of D.image site.new.disks) }
+    ensures promised { IsTrue D.tells → IsTrue S.tells → (world : World) → IsFit world → StandFor (contents_of D.bytes site.old.disks) world
+        → IsSound era.old.number (images_of D.image site.old.disks)
+        → KeepsPromise (scene_of D.bytes D.image D.ledger era.old.number site.old.disks site.new.disks world (run (map string_bytes words.now) moment world (S.left source.old))) }
     ensures finishes { IsTrue D.tells → IsTrue S.tells → (world : World) → IsFit world → StandFor (contents_of D.bytes site.old.disks) world
         → Finishes (run (map string_bytes words.now) moment world (S.left source.old)) (S.left source.new) (contents_of D.bytes site.new.disks) (era.new.number + 1)
         (frame_of era.old.number (images_of D.image site.old.disks) (Rests D.ledger site.old.disks site.new.disks)) (images_of D.image site.new.disks) result }
