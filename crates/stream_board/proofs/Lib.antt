@@ -1,0 +1,9 @@
+pub mod Sums
+pub mod Places
+pub mod DrawFinish
+pub mod SplitJoin
+pub mod RestWake
+pub mod Turns
+pub mod Calls
+pub mod Ends
+pub mod BetweenRuns
