@@ -3,7 +3,7 @@ use Rattle.std.proofs.Common.{◌≡◌, ◌≢◌, ℕ, zero, suc, ◌+◌, ◌
 use Rattle.std.proofs.lemmas.List.{get_or_append_left}
 use Rattle.block_chain.specs.Blocks.{times, last_or}
 use Rattle.block_chain.specs.Table.{chain}
-use Rattle.block_chain.proofs.BlockLemmas.{times_head, times-tail, times_last, head_apart, head_once}
+use Rattle.block_chain.specs.BlocksLaws.{times_head, times-tail, times_last, head_apart, head_once}
 
 pub length-chain : (links : List ℕ) (block count : ℕ) → length (chain links block count) ≡ count
 length-chain links block zero = refl

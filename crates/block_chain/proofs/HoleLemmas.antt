@@ -9,7 +9,7 @@ use Rattle.block_chain.specs.Table.{chain, linked_blocks}
 use Rattle.block_chain.specs.Layout.{IsChain, joined, joined_links}
 use Rattle.block_chain.specs.Placing.{link_of, is_hole}
 use Rattle.block_chain.specs.declared.lists.BlockList.{BlockList}
-use Rattle.block_chain.proofs.BlockLemmas.{times-append, times_other, times_single, times-single, times_above, ascending_once, ascending-split}
+use Rattle.block_chain.specs.BlocksLaws.{times-append, times_other, times_single, times-single, times_above, ascending_once, ascending-split}
 use Rattle.block_chain.proofs.JoinLemmas.{tail_stands, length-joined_links, linked_blocks-joined}
 use Rattle.block_chain.proofs.LayoutLemmas.{IsChain-joined, lens_fit}
 use Rattle.block_chain.proofs.TakeLemmas.{single}

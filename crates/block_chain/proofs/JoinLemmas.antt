@@ -6,7 +6,7 @@ use Rattle.block_chain.specs.Blocks.{times, last_or, AreApart}
 use Rattle.block_chain.specs.Table.{chain, linked_blocks}
 use Rattle.block_chain.specs.Layout.{IsChain, joined, joined_links}
 use Rattle.block_chain.specs.declared.lists.BlockList.{BlockList}
-use Rattle.block_chain.proofs.BlockLemmas.{times_last, last_or-append}
+use Rattle.block_chain.specs.BlocksLaws.{times_last, last_or-append}
 use Rattle.block_chain.proofs.ChainLemmas.{chain-set, chain-join}
 
 -- the tail of a list that isn't empty stands in it

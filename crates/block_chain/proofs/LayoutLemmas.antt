@@ -5,7 +5,7 @@ use Rattle.block_chain.specs.Blocks.{times, last_or, AreApart, AreSound, ascendi
 use Rattle.block_chain.specs.Table.{Table, chain, linked_blocks, blocks_of, IsListOf, KeepsOthers}
 use Rattle.block_chain.specs.Layout.{IsChain, joined, joined_links, free_blocks, table_of, IsLaidOut}
 use Rattle.block_chain.specs.declared.lists.BlockList.{BlockList}
-use Rattle.block_chain.proofs.BlockLemmas.{times-append, times_head, times-tail, times_below, times_above, times_within, length_of_distinct, length-ascending, ascending_once, apart_cases}
+use Rattle.block_chain.specs.BlocksLaws.{times-append, times_head, times-tail, times_below, times_above, times_within, length_of_distinct, length-ascending, ascending_once, apart_cases}
 use Rattle.block_chain.proofs.ChainLemmas.{length-chain, chain-append}
 use Rattle.block_chain.proofs.JoinLemmas.{tail_stands, length-joined_links, chain-joined_links, linked_blocks-joined, joined-ends}
 

@@ -1,4 +1,3 @@
-pub mod BlockLemmas
 pub mod ChainLemmas
 pub mod JoinLemmas
 pub mod LayoutLemmas

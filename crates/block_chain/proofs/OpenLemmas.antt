@@ -13,7 +13,7 @@ use Rattle.block_chain.specs.Layout.{IsChain, free_blocks, table_of, IsLaidOut}
 use Rattle.block_chain.specs.Placing.{link_of, is_hole, AreLinked, ArePlaced, KeepsLinks}
 use Rattle.block_chain.specs.declared.lists.BlockList.{BlockList}
 use Rattle.block_chain.specs.declared.runs.Run.{Run}
-use Rattle.block_chain.proofs.BlockLemmas.{times-append, times_head, times-tail, times_above, times_within, ascending_once}
+use Rattle.block_chain.specs.BlocksLaws.{times-append, times_head, times-tail, times_above, times_within, ascending_once}
 use Rattle.block_chain.proofs.RunLemmas.{first_or}
 use Rattle.block_chain.proofs.PlaceLemmas.{linked_within, AreLinked-kept}
 use Rattle.block_chain.proofs.HoleLemmas.{times-filter, times-filter-passes, times-filter-fails}

@@ -6,7 +6,7 @@ use Rattle.block_chain.specs.Blocks.{times, ascending, last_or, RefusesFirst}
 use Rattle.block_chain.specs.Placing.{link_of, PlacesBlock, AreLinked, last_of, ArePlaced, KeepsLinks, PlacesMore, Explains}
 use Rattle.block_chain.specs.declared.table.ChainFault.{ChainFault}
 use Rattle.block_chain.specs.declared.table.ChainFault.TheVariants.{Overlap, OutOfMemory}
-use Rattle.block_chain.proofs.BlockLemmas.{times-append, times_head, times_other, times-tail, times_last, times-single, last_or-append, ascending-split}
+use Rattle.block_chain.specs.BlocksLaws.{times-append, times_head, times_other, times-tail, times_last, times-single, last_or-append, ascending-split}
 
 -- a block with a link is in range
 pub linked_within : (links : List ℕ) (b : ℕ) → link_of links b ≢ 4294967295 → b < length links

@@ -8,7 +8,7 @@ use Rattle.block_chain.specs.Table.{Table, chain, blocks_of, IsListOf, AreListed
 use Rattle.block_chain.specs.Layout.{table_of, joined, run_list}
 use Rattle.block_chain.specs.declared.lists.BlockList.{BlockList}
 use Rattle.block_chain.specs.declared.runs.Run.{Run}
-use Rattle.block_chain.proofs.BlockLemmas.{times-append, times_within, times_head, last_or-append, length-ascending, length_of_distinct}
+use Rattle.block_chain.specs.BlocksLaws.{times-append, times_within, times_head, last_or-append, length-ascending, length_of_distinct}
 use Rattle.block_chain.proofs.ChainLemmas.{length-chain}
 use Rattle.block_chain.proofs.LayoutLemmas.{IsChain-list}
 

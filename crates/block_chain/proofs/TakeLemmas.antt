@@ -5,7 +5,7 @@ use Rattle.block_chain.specs.Blocks.{times, AreApart, AreSound}
 use Rattle.block_chain.specs.Table.{Table, linked_blocks, blocks_of, IsListOf, KeepsOthers}
 use Rattle.block_chain.specs.Layout.{IsChain, joined, joined_links, free_blocks, table_of, IsLaidOut}
 use Rattle.block_chain.specs.declared.lists.BlockList.{BlockList}
-use Rattle.block_chain.proofs.BlockLemmas.{times-append, times_head, times_single, times-single, apart_cases}
+use Rattle.block_chain.specs.BlocksLaws.{times-append, times_head, times_single, times-single, apart_cases}
 use Rattle.block_chain.proofs.JoinLemmas.{linked_blocks-joined, joined-ends}
 use Rattle.block_chain.proofs.LayoutLemmas.{IsChain-list, lens_fit, IsLaidOut-joined_links, free_blocks-joined_links, KeepsOthers-joined_links}
 

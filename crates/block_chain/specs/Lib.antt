@@ -1,4 +1,5 @@
 pub mod Blocks
+pub mod BlocksLaws
 pub mod Table
 pub mod Layout
 pub mod Placing

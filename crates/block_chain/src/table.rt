@@ -85,7 +85,7 @@ impl Chains {
         })
     }
 
-    /// How many blocks are free, in constant time.
+    /// How many blocks are free.
     pub fn free(&self) -> u32
         ensures count { result ≡ length self.now.free }
         ensures sound { AreSound self.now.blocks self.now.free }
@@ -124,8 +124,8 @@ impl Chains {
         Some(block)
     }
 
-    /// Moves the first free block to the end of the list and answers it, in constant time. Nothing
-    /// changes where no block is free.
+    /// Moves the first free block to the end of the list and answers it. Nothing changes where no block
+    /// is free.
     pub fn take_first(&mut self, list: &mut BlockList) -> Option<u32>
         requires own { IsListOf self.old list.old }
         ensures none { IsNone result ↔ (self.old.free ≡ []) }

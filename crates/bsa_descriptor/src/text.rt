@@ -55,6 +55,16 @@ impl<const W: usize> Text<W> {
     {
         self.bytes.as_slice()
     }
+
+    /// The text as a string.
+    pub fn as_str(&self) -> &str
+        ensures { result.now ≡ self.now }
+    {
+        match str::from_utf8(self.as_bytes()) {
+            Ok(text) => text,
+            Err(_) => unreachable!(),
+        }
+    }
 }
 
 impl<const W: usize> PartialEq for Text<W> {

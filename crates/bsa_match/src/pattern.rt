@@ -46,8 +46,6 @@ fn matches_a_suffix(pattern: &[u8], text: &[u8]) -> bool
 
 /// Whether the pattern matches the whole text: `*` stands for any run of characters, `?` for one, and
 /// another character for itself. There is no escape, and an empty pattern matches the empty text alone.
-///
-/// The time grows with the product of both lengths at most.
 pub fn wild(pattern: &[u8], text: &[u8]) -> bool
     ensures { result ≡ is_wild_match pattern.now text.now }
 {

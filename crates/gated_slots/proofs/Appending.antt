@@ -1,10 +1,12 @@
 -- A batch behind the slots used, as `append` writes it.
 use Rattle.std.proofs.Common.{◌≡◌, ℕ, zero, suc, ◌+◌, ◌-◌, ◌*◌, ◌/◌, ◌%◌, ◌<◌, ◌≤◌, List, length, arith, ap, subst, sym, ◌∙◌}
+use Rattle.site_disk.specs.Bytes.{filled}
+use Rattle.site_disk.specs.BytesLaws.{filled_there, length-filled}
 use Rattle.site_disk.specs.Images.{Leaves, OnlyAfter}
 use Rattle.site_disk.specs.ImagesLaws.{weaker}
 use Rattle.gated_slots.specs.Slots.{SlotsView, IsSlots, place_of, used, Gains, MayGain, Agrees, Reaches}
-use Rattle.gated_slots.specs.Writes.{filled, with_batch, MayAdd}
-use Rattle.gated_slots.specs.SlotsLaws.{BatchFits, gains, may_gain, filled_there, used-filled, length-filled}
+use Rattle.gated_slots.specs.Writes.{with_batch, MayAdd}
+use Rattle.gated_slots.specs.SlotsLaws.{BatchFits, gains, may_gain, used-filled}
 
 some_slots : (size n long : ℕ) → long ≡ size * n → 0 < long → 1 ≤ n
 some_slots size zero long is some = absurd (omega (arith, is, some))

@@ -2,11 +2,11 @@
 use Rattle.std.proofs.Common.{◌≡◌, ◌≢◌, ◌⊎◌, ℕ, zero, suc, ◌+◌, ◌<◌, ◌≤◌, List, [], ◌∷◌, ◌++◌, length, take, drop, get_or, Bool, IsTrue, ⊎_elim, arith, ap, sym, ◌∙◌, refl, length-drop}
 use Rattle.std.proofs.lemmas.List.{length-take, take_more, length-take-le}
 use Rattle.site_disk.specs.Bytes.{extent}
-use Rattle.site_disk.specs.BytesLaws.{length-extent}
+use Rattle.site_disk.specs.BytesLaws.{length-extent, extent-add}
 use Rattle.site_disk.specs.Images.{Unchanged}
 use Rattle.site_disk.specs.Ledger.{Ledger, EraView, Uses}
 use Rattle.gated_slots.specs.Slots.{used_of, with_gate}
-use Rattle.gated_slots.specs.SlotsLaws.{used_of-nil, used_of-cons, used_of-append_closed, used_of-append_open, used_of_le, extent-add}
+use Rattle.gated_slots.specs.SlotsLaws.{used_of-nil, used_of-cons, used_of-append_closed, used_of-append_open, used_of_le}
 
 -- the gates up to a place are counted
 pub record Counted {D : Type 0} (tells : Bool) (bytes : D → List ℕ) (image : D → ℕ → List ℕ → Type 0) (ledger : D → Ledger) (era : EraView) (gates capacity at used : ℕ) (old new : D) : Type 0 where

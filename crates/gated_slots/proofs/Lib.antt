@@ -1,4 +1,2 @@
-mod Going
-mod Zeroing
 mod Appending
 mod Counting

@@ -3,11 +3,10 @@ use Rattle.std.specs.Prelude.{◌≡◌, ℕ, ◌+◌, ◌≤◌, List, [], ◌�
 use mathlib.Core.Logic.{inl, inr}
 use Rattle.std.proofs.Common.{arith, ap, sym, ◌∙◌, ⊎_elim, get_or, length-drop}
 use Rattle.std.proofs.lemmas.List.{drop_all, drop_at, length-take-le, append_assoc}
-use Rattle.site_disk.specs.Bytes.{extent, written, Torn}
-use Rattle.site_disk.specs.BytesLaws.{extent-written, length-written, torn_whole}
+use Rattle.site_disk.specs.Bytes.{extent, written, filled, Torn}
+use Rattle.site_disk.specs.BytesLaws.{extent-written, extent-one, filled_there, length-written, torn_whole}
 use Rattle.gated_slots.specs.Header.{IsHeader, IsClosed, MayOpen}
-use Rattle.gated_slots.specs.SlotsLaws.{extent-one, filled_there}
-use Rattle.gated_slots.specs.Writes.{filled, with_batch, MayAdd}
+use Rattle.gated_slots.specs.Writes.{with_batch, MayAdd}
 
 -- a disk whose first byte is 0 has no header
 pub closed_no_header : (bytes : List ℕ) → IsClosed bytes → IsHeader bytes → ⊥

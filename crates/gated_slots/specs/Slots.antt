@@ -1,7 +1,6 @@
 -- An area of slots on a disk: what its gates say, and what calls do to it.
 use Rattle.std.specs.Prelude.{◌≡◌, ◌⊎◌, ℕ, zero, suc, ◌+◌, ◌-◌, ◌*◌, ◌/◌, ◌^◌, ◌<◌, ◌≤◌, min, max, List, [], ◌∷◌, ◌++◌, length, replicate}
 use Rattle.site_disk.specs.Bytes.{extent, Apart}
-use Rattle.site_disk.specs.Images.{Unchanged}
 
 -- where the gates and the slots begin, the bytes of a slot, the number of slots; a gate is one byte
 pub record Area : Type 0 where
@@ -97,8 +96,3 @@ pub record Agrees (view : SlotsView) (last : ℕ) (bytes : List ℕ) (images : �
 -- the bytes go on at least to the place of the next slot
 abbrev pub Reaches : SlotsView → List ℕ → Type 0
 Reaches view bytes = place_of view.area view.used ≤ length bytes
-
--- a refusal leaves the disk as it was
-pub record Refused (old_bytes new_bytes : List ℕ) (old new : ℕ → List ℕ → Type 0) : Type 0 where
-  pub bytes : new_bytes ≡ old_bytes
-  pub images : Unchanged old new

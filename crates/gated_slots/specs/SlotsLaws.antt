@@ -5,10 +5,10 @@ use Rattle.std.proofs.Common.{arith, ap, sym, ◌∙◌, ⊎_elim, subst, get_or
 use Rattle.std.proofs.lemmas.List.{append-nil, drop_at, drop-drop, drop-take, take-take, length-take, take-append-drop, drop_more, length-replicate, take-replicate, drop-replicate}
 use Rattle.std.proofs.lemmas.Bool.{cases_eq}
 use Rattle.std.proofs.Math.Nat.{mul-le-mul_left}
-use Rattle.site_disk.specs.Bytes.{extent, written, Torn, Apart}
-use Rattle.site_disk.specs.BytesLaws.{extent-written, length-written, torn_whole, length-extent, extent-extent}
-use Rattle.gated_slots.specs.Writes.{filled, with_batch, MayAdd}
-use Rattle.gated_slots.specs.Slots.{Area, with_gate, used_of, used, held, place_of, Elsewhere, Keeps, Gains, MayGain, Refused, Zeroes}
+use Rattle.site_disk.specs.Bytes.{extent, written, filled, Torn, Apart}
+use Rattle.site_disk.specs.BytesLaws.{extent-written, length-written, torn_whole, length-extent, extent-extent, extent-add, extent-one, extent-fewer, extent-about, filled_there}
+use Rattle.gated_slots.specs.Writes.{with_batch, MayAdd}
+use Rattle.gated_slots.specs.Slots.{Area, with_gate, used_of, used, held, place_of, Elsewhere, Keeps, Gains, MayGain, Zeroes}
 
 -- gates
 
@@ -108,43 +108,6 @@ module _ (front back : List ℕ) (was : ℕ) (i : ℕ) (long : length front ≡ 
   gate_closed =
       used_of-append_closed front (0 ∷ back) (used_of-cons 0 back ∙ ap (with_gate 0) none_behind)
       ∙ sym (used_of-append_closed front (was ∷ back) none_from)
-
--- extents
-
-pub take-add : (m n : ℕ) (xs : List ℕ) → take (m + n) xs ≡ take m xs ++ take n (drop m xs)
-take-add m n xs =
-    sym (take-append-drop m (take (m + n) xs))
-    ∙ ap (λ (l : List ℕ). l ++ drop m (take (m + n) xs)) (take-take m (m + n) xs (omega arith))
-    ∙ ap (λ (l : List ℕ). take m xs ++ l) (drop-take m n xs)
-
--- a range and the one behind it
-pub extent-add : (at m n : ℕ) (xs : List ℕ) → extent at (m + n) xs ≡ extent at m xs ++ extent (at + m) n xs
-extent-add at m n xs = take-add m n (drop at xs) ∙ ap (λ (l : List ℕ). take m (drop at xs) ++ take n l) (drop-drop m at xs)
-
-pub extent-one : (at : ℕ) (xs : List ℕ) → at < length xs → extent at 1 xs ≡ get_or xs at 0 ∷ []
-extent-one at xs lt = ap (λ (l : List ℕ). take 1 l) (drop_more xs at 0 lt)
-
--- a shorter range of the same place
-pub extent-fewer : (at m n : ℕ) (xs ys : List ℕ) → m ≤ n → extent at n xs ≡ extent at n ys → extent at m xs ≡ extent at m ys
-extent-fewer at m n xs ys le same =
-    sym (take-take m n (drop at xs) le) ∙ ap (λ (l : List ℕ). take m l) same ∙ take-take m n (drop at ys) le
-
--- a range about one byte
-pub extent-about : (at i r : ℕ) (xs : List ℕ) → at + i < length xs
-    → extent at (i + (1 + r)) xs ≡ extent at i xs ++ get_or xs (at + i) 0 ∷ extent (at + i + 1) r xs
-extent-about at i r xs lt =
-    extent-add at i (1 + r) xs
-    ∙ ap (λ (l : List ℕ). extent at i xs ++ l) (extent-add (at + i) 1 r xs ∙ ap (λ (l : List ℕ). l ++ extent (at + i + 1) r xs) (extent-one (at + i) xs lt))
-
--- bytes that reach a place aren't filled up to it
-pub filled_there : (place : ℕ) (bytes : List ℕ) → place ≤ length bytes → filled place bytes ≡ bytes
-filled_there place bytes le =
-    let none : place - length bytes ≡ 0 = omega (arith, le) in ap (λ (k : ℕ). bytes ++ replicate k 0) none ∙ append-nil bytes
-
-pub length-filled : (place : ℕ) (bytes : List ℕ) → length (filled place bytes) ≡ max place (length bytes)
-length-filled place bytes =
-    let zeros : List ℕ = replicate (place - length bytes) 0 in
-    omega (arith, length-append bytes zeros, length-replicate {A = ℕ} (place - length bytes) 0)
 
 -- zero bytes open no gate
 pub used-filled : (area : Area) (place : ℕ) (bytes : List ℕ) → used area (filled place bytes) ≡ used area bytes
@@ -286,16 +249,6 @@ module _ (area : Area) (u n : ℕ) (batch : List ℕ) (fits : BatchFits area u n
     may_gain i is new may = ⊎_elim
         (λ torn. let part = part_of_batch new torn in record { slots = inl part; elsewhere = part.elsewhere; no_shorter = part.no_shorter })
         (λ added. with_gate_torn added.0 i is new added.1) may
-
--- what a refusal leaves of a disk that it hasn't used
-pub refused_same : {D : Type 0} (bytes : D → List ℕ) (image : D → ℕ → List ℕ → Type 0) (old new : D) → new ≡ old → Refused (bytes old) (bytes new) (image old) (image new)
-refused_same bytes image old new same = record {
-  bytes = ap bytes same;
-  images = record {
-    forth = λ f c is. subst (λ d. image d f c) (sym same) is;
-    back = λ f c is. subst (λ d. image d f c) same is;
-  };
-}
 
 -- a call that does nothing keeps the slots
 pub keeps_same : (area : Area) (bytes : List ℕ) → Keeps area bytes bytes

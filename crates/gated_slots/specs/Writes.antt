@@ -1,10 +1,6 @@
 -- What a stop within a write of two steps leaves.
-use Rattle.std.specs.Prelude.{◌⊎◌, ℕ, ◌-◌, ◌≤◌, List, [], ◌∷◌, ◌++◌, length, replicate}
+use Rattle.std.specs.Prelude.{◌⊎◌, ℕ, ◌≤◌, List, [], ◌∷◌, length}
 use Rattle.site_disk.specs.Bytes.{written, Torn}
-
--- zero bytes up to a place, where the bytes end before it
-abbrev pub filled : ℕ → List ℕ → List ℕ
-filled place bytes = bytes ++ replicate (place - length bytes) 0
 
 -- a batch, and then its gate
 abbrev pub with_batch : ℕ → List ℕ → ℕ → List ℕ → List ℕ

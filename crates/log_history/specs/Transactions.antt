@@ -72,7 +72,7 @@ low_of (o ∷ others) end = o.first
 abbrev pub low : History → ℕ
 low history = low_of (table_of history) (length history)
 
--- why a record may not follow
+-- why the open transactions refuse a record
 pub data Refusal : Type 0 where
   already_open : Refusal
   not_open : Refusal

@@ -1,34 +1,103 @@
 -- Printing what a command did.
-use Rattle.std.proofs.Common.{◌≡◌, ◌⊎◌, inl, inr, ℕ, List, [], ◌++◌, length, take, drop, Result, Ok, Err, IfOk, refl, sym, ◌∙◌, ap, subst, arith}
+use Rattle.std.specs.Prelude.{IfErr, OnOk}
+use Rattle.std.proofs.Common.{◌≡◌, ◌⊎◌, ⊎_elim, Bool, inl, inr, ℕ, List, [], ◌++◌, length, take, drop, Result, Ok, Err, IfOk, refl, sym, ◌∙◌, ap, subst, arith}
 use Rattle.std.proofs.lemmas.List.{take-append-drop, append-nil, length-take-le}
 use Rattle.site_model.specs.declared.disk_name.DiskName.{DiskName}
 use Rattle.site_model.specs.declared.status.Status.{Status}
-use Rattle.site_model.specs.declared.status.Status.TheVariants.{OutOfMemory, ReadFault, WriteFault, DiskFault}
+use Rattle.site_model.specs.declared.status.Status.TheVariants.{OutOfMemory, ReadFault, WriteFault, DiskFault, Usage, NotFormatted, AlreadyFormatted, BadRecord, LogLost}
 use Rattle.site_model.specs.Commands.{CutsShort, Did, Printed, IsFront}
+use Rattle.site_model.specs.Openings.{IsOfDisks, IsRefused, IsUsage, OpensFor}
+use Rattle.site_model.specs.OpeningLaws.{one_refusal, opens_unrefused, usage_unrefused}
 use Rattle.site_model.specs.Runs.{Run}
+use Rattle.onbar_command.specs.Extending.{EndsScript}
 use Rattle.site_model.specs.Steps.{ImagesOf, Frame}
 use Rattle.site_model.specs.Texts.{status_text}
 use Rattle.site_model.specs.Worlds.{World}
-use Rattle.onbar_command.specs.declared.extending.Extended.{Extended}
+use Rattle.onbar_command.specs.declared.report.Report.{Report}
+use Rattle.onbar_command.specs.declared.report.Report.TheVariants.{Formatted, Extended as LogExtended}
 use Rattle.onbar_command.specs.Forms.{IsDone, Finishes, IsNoStop, status_told, text_told}
 use Rattle.onbar_command.specs.Printing.{TakesFront}
 
-module _ (run : Run) (after : List ℕ) (contents : DiskName → List ℕ) (era : ℕ) (frame : (World → Type 0) → Frame World) (new : ImagesOf) where
+pub ends_uncut : (status : Status) → EndsScript status → CutsShort status → ⊥
+ends_uncut OutOfMemory ends cut = ends
+ends_uncut ReadFault ends cut = ends
+ends_uncut WriteFault ends cut = ends
+ends_uncut (DiskFault name) ends cut = ends
+ends_uncut status ends cut = cut
+
+-- a status of a form that is refused for what the disks hold is told by an error
+pub of_disks : (result : Result Report Status) → IfOk result IsNoStop → IsOfDisks (status_told result) → (status : Status) × (result ≡ Err status) × IsOfDisks status
+of_disks (Ok (LogExtended told)) no_stop is = absurd (not_both told.status no_stop is)
+  where
+    not_both : (status : Status) → EndsScript status → IsOfDisks status → ⊥
+    not_both NotFormatted ends of = ends
+    not_both AlreadyFormatted ends of = ends
+    not_both LogLost ends of = ends
+    not_both (BadRecord disk slot) ends of = ends
+    not_both status ends of = of
+of_disks (Ok (Formatted spaces)) no_stop is = absurd is
+of_disks (Err status) no_stop is = (status, refl, is)
+
+not_cut_of_disks : (status : Status) → IsOfDisks status → CutsShort status → ⊥
+not_cut_of_disks OutOfMemory of cut = of
+not_cut_of_disks ReadFault of cut = of
+not_cut_of_disks WriteFault of cut = of
+not_cut_of_disks (DiskFault name) of cut = of
+not_cut_of_disks status of cut = cut
+
+-- nothing is written then
+pub kept_of_disks : {A : Type 0} (result : Result Report Status) → IfOk result IsNoStop → IfErr result (λ status. CutsShort status ⊎ A) → IsOfDisks (status_told result) → A
+kept_of_disks {A} result no_stop kept is =
+    let err = of_disks result no_stop is in
+    let here = subst (λ (r : Result Report Status). IfErr r (λ status. CutsShort status ⊎ A)) err.1 kept in
+    ⊎_elim (λ cut. absurd (not_cut_of_disks err.0 err.2 cut)) (λ a. a) here
+
+-- and the disks' bytes are the cause
+pub cause_of_disks : (words : List (List ℕ)) (contents : DiskName → List ℕ) (result : Result Report Status) → IfOk result IsNoStop
+    → IfErr result (λ status. CutsShort status ⊎ (IsUsage words status ⊎ IsRefused words contents status)) → IsOfDisks (status_told result)
+    → IsRefused words contents (status_told result)
+cause_of_disks words contents (Ok report) no_stop refused is = absurd (let err = of_disks (Ok report) no_stop is in cc (err.1))
+cause_of_disks words contents (Err status) no_stop refused is = ⊎_elim
+    (λ cut. absurd (not_cut_of_disks status is cut))
+    (λ other. ⊎_elim (λ usage. absurd (subst IsOfDisks usage.2 is)) (λ refuses. refuses) other)
+    refused
+
+-- a form that the disks' bytes refuse ends so, or is cut short
+pub refused_so : (words : List (List ℕ)) (contents : DiskName → List ℕ) (result : Result Report Status) (before now : List ℕ)
+    → IfErr result (λ status. CutsShort status ⊎ (IsUsage words status ⊎ IsRefused words contents status))
+    → OnOk result (OpensFor words contents) → now ≡ before ++ text_told result → (status : Status) → IsRefused words contents status
+    → CutsShort (status_told result) ⊎ ((status_told result ≡ status) × (now ≡ before ++ status_text status))
+refused_so words contents (Ok report) before now refused opens text status is = absurd (opens_unrefused words contents opens status is)
+refused_so words contents (Err found) before now refused opens text status is = ⊎_elim
+    (λ cut. inl cut)
+    (λ other. ⊎_elim
+    (λ usage. absurd (usage_unrefused words contents usage.0 usage.1 status is))
+    (λ refuses. let same = one_refusal words contents found status refuses is in inr (same, text ∙ ap (λ (s : Status). before ++ status_text s) same))
+    other)
+    refused
+
+pub usage_told : (result : Result Report Status) (before now : List ℕ) → IfOk result IsNoStop → now ≡ before ++ text_told result → (n : ℕ)
+    → status_told result ≡ Usage n → now ≡ before ++ status_text (Usage n)
+usage_told (Ok (LogExtended told)) before now no_stop text n is = absurd (subst EndsScript is no_stop)
+usage_told (Ok (Formatted spaces)) before now no_stop text n is = absurd (cc is)
+usage_told (Err status) before now no_stop text n is = text ∙ ap (λ (s : Status). before ++ status_text s) is
+
+module _ (reads : Bool) (run : Run) (after : List ℕ) (contents : DiskName → List ℕ) (era : ℕ) (frame : (World → Type 0) → Frame World) (new : ImagesOf) where
   -- what isn't told as a stop is done
-  pub is_done : (result : Result Extended Status) → Finishes run after contents era frame new result → (CutsShort (status_told result) → ⊥)
-      → IsDone run after contents era frame new result
+  pub is_done : (result : Result Report Status) → Finishes reads run after contents era frame new result → (CutsShort (status_told result) → ⊥)
+      → IsDone reads run after contents era frame new result
   is_done (Ok told) finishes not_cut = finishes
   is_done (Err status) (inl cut) not_cut = absurd (not_cut cut)
   is_done (Err status) (inr done) not_cut = done
 
-  pub did : (result : Result Extended Status) (before now : List ℕ) → Finishes run after contents era frame new result → (CutsShort (status_told result) → ⊥)
+  pub did : (result : Result Report Status) (before now : List ℕ) → Finishes reads run after contents era frame new result → (CutsShort (status_told result) → ⊥)
       → now ≡ before ++ text_told result → Did run (status_told result) before now contents era frame new
   did result before now finishes not_cut text =
       let done = is_done result finishes not_cut in
       record {
         status = sym done.status;
         text = text ∙ ap (λ (t : List ℕ). before ++ t) (sym done.text);
-        reads = done.reads;
+        reads = done.stands;
         crash = done.crash;
       }
 
@@ -56,22 +125,23 @@ module _ (run : Run) (after : List ℕ) (contents : DiskName → List ℕ) (era 
   no_text (DiskFault name) cut = refl
   no_text status cut = absurd cut
 
-  done_front : (result : Result Extended Status) (before now : List ℕ) → IsDone run after contents era frame new result → TakesFront before now (text_told result)
+  done_front : (result : Result Report Status) (before now : List ℕ) → IsDone reads run after contents era frame new result → TakesFront before now (text_told result)
       → Printed run before now era frame new
   done_front result before now done front =
       let part = front_of (text_told result) before now front in
       record { printed = part.0; text = part.1; after_work = inr (subst (λ (t : List ℕ). IsFront part.0 t) (sym done.text) part.2, done.crash) }
 
-  pub printed_front : (result : Result Extended Status) (before now : List ℕ) → Finishes run after contents era frame new result → TakesFront before now (text_told result)
+  pub printed_front : (result : Result Report Status) (before now : List ℕ) → Finishes reads run after contents era frame new result → TakesFront before now (text_told result)
       → Printed run before now era frame new
   printed_front (Ok told) before now finishes front = done_front (Ok told) before now finishes front
   printed_front (Err status) before now (inl cut) front = absurd (none_before (status_text status) before now front (no_text status cut))
   printed_front (Err status) before now (inr done) front = done_front (Err status) before now done front
 
   -- one that was cut short prints nothing
-  pub printed_none : (result : Result Extended Status) (before now : List ℕ) → (told_no_stop : IfOk result IsNoStop) → CutsShort (status_told result)
+  pub printed_none : (result : Result Report Status) (before now : List ℕ) → (told_no_stop : IfOk result IsNoStop) → CutsShort (status_told result)
       → now ≡ before ++ text_told result → Printed run before now era frame new
-  printed_none (Ok told) before now no_stop cut text = absurd (no_stop cut)
+  printed_none (Ok (LogExtended told)) before now no_stop cut text = absurd (ends_uncut told.status no_stop cut)
+  printed_none (Ok (Formatted spaces)) before now no_stop cut text = absurd cut
   printed_none (Err status) before now no_stop cut text =
       record { printed = []; text = text ∙ ap (λ (t : List ℕ). before ++ t) (no_text status cut); after_work = inl refl }
 
@@ -85,6 +155,7 @@ complete_so (DiskFault name) said whole read write disk = absurd (disk name refl
 complete_so status said whole read write disk = inl (whole (λ cut. cut))
 
 -- a stop is told by an error
-pub is_err : (result : Result Extended Status) (status : Status) → IfOk result IsNoStop → CutsShort status → status_told result ≡ status → result ≡ Err status
-is_err (Ok told) status no_stop cut is = absurd (no_stop (subst CutsShort (sym is) cut))
+pub is_err : (result : Result Report Status) (status : Status) → IfOk result IsNoStop → CutsShort status → status_told result ≡ status → result ≡ Err status
+is_err (Ok (LogExtended told)) status no_stop cut is = absurd (ends_uncut told.status no_stop (subst CutsShort (sym is) cut))
+is_err (Ok (Formatted spaces)) status no_stop cut is = absurd (subst CutsShort (sym is) cut)
 is_err (Err found) status no_stop cut is = ap Err is

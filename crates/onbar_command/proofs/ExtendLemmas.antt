@@ -1,5 +1,6 @@
 -- Extending the log by a script, between its calls.
-use Rattle.std.proofs.Common.{◌≡◌, inl, inr, ⊎_elim, ℕ, ◌+◌, ◌<◌, ◌≤◌, List, [], ◌∷◌, ◌++◌, refl, sym, ◌∙◌, subst, arith}
+use Rattle.std.proofs.Common.{◌≡◌, ◌⊎◌, None, inl, inr, ⊎_elim, ℕ, ◌+◌, ◌<◌, ◌≤◌, List, [], ◌∷◌, ◌++◌, refl, sym, ◌∙◌, subst, arith}
+use Rattle.std.specs.Prelude.{Result, Ok, Err, OnOk}
 use Rattle.std.proofs.lemmas.Bool.{cases_order}
 use Rattle.std.proofs.lemmas.List.{append-nil}
 use Rattle.log_history.specs.History.{History}
@@ -22,7 +23,11 @@ use Rattle.onbar_command.specs.declared.transactions.Stop.TheVariants.{End, Faul
 use Rattle.onbar_command.specs.declared.transactions.Work.{Work}
 use Rattle.onbar_command.specs.Ends.{RunDone, RunEnds}
 use Rattle.onbar_command.specs.Extending.{IsExtended, ExtendsTo, log_status, report_of}
-use Rattle.onbar_command.specs.Openings.{IsDeviceOrMemory}
+use Rattle.onbar_command.specs.declared.opening.OpenLog.{OpenLog}
+use Rattle.onbar_command.specs.Logs.{IsReady}
+use Rattle.onbar_command.specs.Openings.{IsDeviceOrMemory, IsOpened}
+use Rattle.site_model.specs.Openings.{CanOpen, LogRefuses, first_stray}
+use Rattle.site_model.specs.OpeningLaws.{none_bad_place, one_reading, holds_reads}
 use Rattle.onbar_command.specs.Replays.{IsStateOf}
 use Rattle.onbar_command.specs.Scripts.{place_at}
 use Rattle.onbar_command.specs.Walks.{LogWalk}
@@ -36,6 +41,30 @@ nothing_new e old new leaves counts f c image = elim (cases_order f e) [
   | inr (inl before) ↦ leaves.earlier f c before image
   | inr (inr behind) ↦ let from = leaves.later f c behind image in subst (λ (d : List ℕ). old f d) (sym from.2) from.1
 ]
+
+-- a log that holds the records of a site and can be opened isn't refused
+pub not_refused : (site : Site) (file : List ℕ) (fault : OpenFault) → HoldsLog site file → CanOpen site.history
+    → IsDeviceOrMemory fault ⊎ LogRefuses site.head.site file (log_status fault) → IsDeviceOrMemory fault
+not_refused site file fault holds opens came = ⊎_elim (λ is. is) (λ refuses. absurd (⊎_elim
+    (λ lost. lost.0 holds.header)
+    (λ bad. none_bad_place site file holds opens bad.1.0 bad.1.1)
+    refuses)) came
+
+-- what was opened is the site's log
+module _ (site : Site) (log : OpenLog) (last : ℕ) (file bytes : List ℕ) (images : ℕ → List ℕ → Type 0) (holds : HoldsLog site file)
+    (can : CanOpen site.history) (same : bytes ≡ file) (is : IsOpened site.head.site last bytes images log) where
+  history_is : is.history ≡ site.history
+  history_is =
+      let ready = is.ready site.head refl in
+      let here = subst (HoldsLog (record { head = site.head; history = is.history })) same ready.holds in
+      one_reading is.history site.history file (holds_reads (record { head = site.head; history = is.history }) file here is.opens.back) (holds_reads site file holds can.back)
+      (sym here.used ∙ holds.used)
+
+  pub opened_state : IsStateOf site.history log.state
+  opened_state = subst (λ (h : History). IsStateOf h log.state) history_is is.state
+
+  pub opened_ready : IsReady site log.slots last bytes images
+  opened_ready = subst (λ (h : History). IsReady (record { head = site.head; history = h }) log.slots last bytes images) history_is (is.ready site.head refl)
 
 pub cuts_short : (fault : OpenFault) → IsDeviceOrMemory fault → CutsShort (log_status fault)
 cuts_short LogLost is = absurd is
@@ -63,11 +92,11 @@ right_none [] ys is = is
 right_none (x ∷ xs) ys is = absurd (cc)
 
 -- where a run begins
-pub begins_at : (progress : Progress) (history : History) (state : LogState) → progress.lines ≡ record { begun = 0; line = []; held = [] } → progress.line ≡ 0
+pub begins_at : (progress : Progress) (history : History) (state : LogState) → first_stray history ≡ None → progress.lines ≡ record { begun = 0; line = []; held = [] } → progress.line ≡ 0
     → progress.collected.batch.items ≡ [] → progress.collected.open ≡ state.open → progress.collected.time ≡ state.time → IsStateOf history state
     → place_at progress (history ++ []) [] ≡ first_place history
-begins_at progress history state lines line batch table time is =
-    let table_is : progress.collected.open ≡ table_of history = table ∙ is.table in
+begins_at progress history state no_stray lines line batch table time is =
+    let table_is : progress.collected.open ≡ table_of history = table ∙ is.table no_stray in
     let time_is : progress.collected.time ≡ last_time history = time ∙ is.time in
     λ i. record {
       begun = (lines i).begun;
@@ -102,3 +131,8 @@ module _ (site : Site) (ending : Ending) (held left : List ℕ) (work : Work) (s
   extends_to ReadFault ends = (tt, walk_from site ending.passed start old mid new none ends)
   extends_to DiskFault ends = (tt, walk_from site ending.passed start old mid new none ends)
   extends_to OutOfMemory ends = (tt, walk_from site ending.passed start old mid new none ends)
+
+-- what holds anyhow holds at Ok
+pub so_at_ok : {T E A : Type 0} (result : Result T E) → A → OnOk result A
+so_at_ok (Ok value) is = is
+so_at_ok (Err fault) is = tt

@@ -5,23 +5,23 @@ use mathlib.Core.Bool.{true, true≢false}
 use Rattle.std.specs.Prelude.{Result, Ok, Err, OnOk, is_ok}
 use Rattle.std.proofs.lemmas.Bool.{cases_lt}
 use Rattle.site_disk.specs.Bytes.{extent, written, Same}
-use Rattle.site_disk.specs.BytesLaws.{length-written, torn_whole}
+use Rattle.site_disk.specs.BytesLaws.{extent-one, length-written, torn_whole}
 use Rattle.site_disk.specs.Images.{Leaves, OnlyAfter}
 use Rattle.site_disk.specs.ImagesLaws.{no_more_of}
 use Rattle.gated_slots.specs.Header.{IsHeader, IsClosed, StandsClosed, MayClose, MayOpen}
 use Rattle.gated_slots.specs.HeaderLaws.{extent-header, first_by_extent}
 use Rattle.gated_slots.specs.Slots.{Area, used, first_zero, Zeroes}
-use Rattle.gated_slots.specs.SlotsLaws.{extent-one, used-zeroes, used_by_gates}
+use Rattle.gated_slots.specs.SlotsLaws.{used-zeroes, used_by_gates}
 use Rattle.site_headers.specs.Heads.{Head}
 use Rattle.site_headers.specs.Headers.{HasHeader, log_tail, catalogue_tail}
 use Rattle.site_headers.specs.HeaderLaws.{length-log_tail, length-catalogue_tail, HasHeader-extent}
 use Rattle.site_model.specs.declared.disk_name.DiskName.{DiskName}
 use Rattle.site_model.specs.declared.disk_name.DiskName.TheVariants.{Cat, Spare, Boot, Log, Volume, Chunk}
 use Rattle.site_model.specs.Layouts.{HasNoCatalogue, HoldsLog, log_area, Shows, StandFor}
-use Rattle.site_model.specs.Worlds.{unformatted, formatted}
+use Rattle.site_model.specs.Worlds.{unformatted, formatted, new_site}
 use Rattle.onbar_command.specs.declared.site.SiteDisks.{SiteDisks}
 use Rattle.onbar_command.specs.Disks.{images_of}
-use Rattle.onbar_command.specs.Formatting.{new_site, MayStandFormatted}
+use Rattle.onbar_command.specs.Formatting.{MayStandFormatted}
 use Rattle.onbar_command.proofs.HeaderLemmas.{is_header}
 
 -- a header's page written over the first bytes

@@ -4,7 +4,7 @@ use Rattle.std.proofs.lemmas.Bool.{both_ways}
 use Rattle.site_disk.specs.Bytes.{extent}
 use Rattle.site_disk.specs.BytesLaws.{extent-extent}
 use Rattle.gated_slots.specs.Header.{IsHeader}
-use Rattle.gated_slots.specs.SlotsLaws.{extent-one}
+use Rattle.site_disk.specs.BytesLaws.{extent-one}
 use Rattle.site_headers.specs.Headers.{HasHeader}
 use Rattle.site_headers.specs.HeaderLaws.{length-HasHeader, HasHeader-same}
 

@@ -4,6 +4,7 @@ mod EndLemmas
 mod ExtendLemmas
 mod FormattingLemmas
 mod HeaderLemmas
+mod InitLemmas
 mod LinesLemmas
 mod ListLemmas
 mod OpeningLemmas
@@ -11,3 +12,4 @@ mod ReadingLemmas
 mod ReplayLemmas
 mod SiteLemmas
 mod TurnLemmas
+mod WordsLemmas

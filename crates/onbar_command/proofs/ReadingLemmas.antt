@@ -1,79 +1,47 @@
 -- The log's records are read a run of slots at a time.
-use Rattle.std.proofs.Common.{◌≡◌, ℕ, ◌+◌, ◌*◌, ◌≤◌, ◌^◌, List, ◌++◌, length, take, drop, Bool, IsTrue, sym, ◌∙◌, ap, subst, arith, length-drop}
-use Rattle.std.specs.List.{AllByRecursion, flat_map}
-use Rattle.std.proofs.lemmas.List.{take-append-drop, length-take-le}
-use Rattle.log_history.specs.History.{History}
-use Rattle.log_history.specs.Transactions.{InOrder}
-use Rattle.site_model.specs.OrderLaws.{InOrder-front}
-use Rattle.log_record.specs.Layout.{IsRecord, spelling}
-use Rattle.gated_slots.specs.Slots.{SlotsView, place_of}
-use Rattle.site_disk.specs.Bytes.{extent, Same}
+use Rattle.std.proofs.Common.{◌≡◌, ℕ, ◌+◌, ◌*◌, ◌≤◌, ◌^◌, List, length, Bool, IsTrue, ◌∙◌, refl, arith}
+use Rattle.site_disk.specs.Bytes.{Same}
 use Rattle.site_disk.specs.Images.{Leaves, Unchanged}
-use Rattle.site_disk.specs.ImagesLaws.{goes_on}
+use Rattle.site_disk.specs.CallsLaws.{uses_nothing}
+use Rattle.site_disk.specs.ImagesLaws.{begins, goes_on}
 use Rattle.site_disk.specs.Ledger.{EraView, Ledger, MayUse, Uses}
-use Rattle.site_model.specs.Spelled.{AllByRecursion-take, AllByRecursion-drop, spelled_part}
 use Rattle.onbar_command.specs.declared.replay.LogState.{LogState}
-use Rattle.onbar_command.specs.Replays.{IsStateOf}
-use Rattle.onbar_command.proofs.ListLemmas.{take-add}
+use Rattle.onbar_command.specs.Openings.{ReadsTo}
 
--- the bytes of an area spell a history that is in order
-pub record Spells (slots : SlotsView) (file : List ℕ) (history : History) : Type 0 where
-  pub count : length history ≡ slots.used
-  pub bounds : AllByRecursion IsRecord history
-  pub bytes : extent slots.area.slots (128 * length history) file ≡ flat_map spelling history
-  pub order : InOrder history
-
-pub record IsReading (tells : Bool) (era : EraView) (slots : SlotsView) (old_bytes new_bytes : List ℕ) (old new : ℕ → List ℕ → Type 0)
-    (old_ledger new_ledger : Ledger) (used : ℕ) (state : LogState) : Type 0 where
-  pub used_is : used ≡ slots.used
-  pub end : state.end ≤ used
+pub record IsReading (tells : Bool) (era : EraView) (old_bytes new_bytes : List ℕ) (old new : ℕ → List ℕ → Type 0)
+    (old_ledger new_ledger : Ledger) (held : ℕ) (state : LogState) : Type 0 where
+  pub end : state.end ≤ held
   pub time : state.time ≤ 2 ^ 48
-  pub taken : IsTrue tells → (history : History) → Spells slots old_bytes history → IsStateOf (take state.end history) state
+  pub taken : IsTrue tells → 73728 + 128 * held ≤ length old_bytes → ReadsTo old_bytes state.end state
   pub bytes : new_bytes ≡ old_bytes
   pub images : Unchanged old new
   pub crash : Leaves era.number Same old new
   pub may : MayUse era new_ledger
   pub ledger : Uses era (128 * state.end) 0 old_ledger new_ledger
 
--- the next n slots behind e that are taken
-module _ (slots : SlotsView) (file : List ℕ) (history : History) (spells : Spells slots file history) (e n len : ℕ) (le : e + n ≤ slots.used)
-    (size : slots.area.size ≡ 128) (len_is : len ≡ 128 * n) where
-  abbrev pub next_past : History
-  next_past = take e history
-
-  abbrev pub next_entries : History
-  next_entries = take n (drop e history)
-
-  next_fits : e + n ≤ length history
-  next_fits = omega (arith, spells.count)
-
-  length_past : length next_past ≡ e
-  length_past = length-take-le e history (let h = next_fits in omega arith)
-
-  length_entries : length next_entries ≡ n
-  length_entries = length-take-le n (drop e history) (let h = next_fits in omega (arith, length-drop e history))
-
-  pub next_all : AllByRecursion IsRecord next_entries
-  next_all = AllByRecursion-take IsRecord n (drop e history) (AllByRecursion-drop IsRecord e history spells.bounds)
-
-  pub next_len : len ≡ 128 * length next_entries
-  next_len = omega (arith, length_entries)
-
-  pub next_bytes : (now : List ℕ) → now ≡ file → extent (place_of slots.area (length next_past)) len now ≡ flat_map spelling next_entries
-  next_bytes now same =
-      ap (extent (place_of slots.area (length next_past)) len) same
-      ∙ ap (λ (k : ℕ). extent (slots.area.slots + k * length next_past) len file) size
-      ∙ ap (λ (k : ℕ). extent (slots.area.slots + 128 * k) len file) length_past
-      ∙ ap (λ (k : ℕ). extent (slots.area.slots + 128 * e) k file) len_is
-      ∙ spelled_part history slots.area.slots e n file spells.bounds next_fits spells.bytes
-
-  pub next_end : next_past ++ next_entries ≡ take (e + n) history
-  next_end = sym (take-add e n history)
-
-  pub next_order : InOrder (next_past ++ next_entries)
-  next_order =
-      subst InOrder (sym next_end)
-      (InOrder-front (take (e + n) history) (drop (e + n) history) (subst InOrder (sym (take-append-drop (e + n) history)) spells.order))
+pub nothing_read : (tells : Bool) (era : EraView) (bytes : List ℕ) (image : ℕ → List ℕ → Type 0) (ledger : Ledger) (held : ℕ) (state : LogState) → MayUse era ledger
+    → state.end ≡ 0 → state.time ≤ 2 ^ 48 → ReadsTo bytes state.end state → IsReading tells era bytes bytes image image ledger ledger held state
+nothing_read tells era bytes image ledger held state may end time reads = record {
+  end = omega (arith, end);
+  time = time;
+  taken = λ t long. reads;
+  bytes = refl;
+  images = record { forth = λ f x is. is; back = λ f x is. is };
+  crash = begins Same Same era.number image image image (λ c. refl);
+  may = may;
+  ledger = uses_more _ _ (uses_nothing may);
+}
+  where
+    uses_more : (a b : Ledger) → Uses era 0 0 a b → Uses era (128 * state.end) 0 a b
+    uses_more a b u = record {
+      key = u.key;
+      no_earlier = u.no_earlier;
+      no_later = u.no_later;
+      faults = u.faults;
+      read = omega (arith, u.read);
+      written = u.written;
+      synced = u.synced;
+    }
 
 -- images that a call leaves as they were stay those of the begin
 pub Unchanged-trans : (a b c : ℕ → List ℕ → Type 0) → Unchanged a b → Unchanged b c → Unchanged a c

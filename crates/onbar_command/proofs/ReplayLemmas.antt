@@ -1,35 +1,79 @@
 -- The log's records are taken one by one.
-use Rattle.std.proofs.Common.{◌≡◌, ℕ, suc, ◌+◌, ◌*◌, ◌%◌, ◌≤◌, ◌^◌, List, [], ◌∷◌, ◌++◌, length, take, drop, reverse, None, refl, sym, ◌∙◌, ap, subst, arith, append_assoc, length-append}
+use Rattle.std.proofs.Common.{◌≡◌, ℕ, suc, ◌+◌, ◌*◌, ◌%◌, ◌≤◌, ◌^◌, List, [], ◌∷◌, ◌++◌, length, take, drop, reverse, Option, None, Some, Bool, true, false, refl, sym, ◌∙◌, ap, subst, arith, append_assoc, length-append}
+use Rattle.std.specs.Prelude.{Result, Ok, Err, IsErrOf, IfSome, IfNone, IsOkUnless, if◌then◌else◌, ◌==◌, nat_lt}
 use Rattle.std.specs.List.{AllByRecursion, flat_map}
-use Rattle.std.proofs.lemmas.List.{append-nil}
-use Rattle.log_history.specs.History.{Entry, History, begin, write, commit, abort, reset}
-use Rattle.log_history.specs.Transactions.{InOrder, refusal, after, last_time, last_time_back}
-use Rattle.txn_table.specs.OrderLaws.{may_follow_not_refused}
-use Rattle.txn_table.specs.TableLaws.{table_of-push}
-use Rattle.site_model.specs.OrderLaws.{may_follow_at, reverse-push}
+use Rattle.std.specs.Option.{option_or}
+use Rattle.std.proofs.lemmas.List.{append-nil, take-append-drop, length-reverse}
+use Rattle.std.proofs.lemmas.List.Concat.{flat_map-append}
+use Rattle.std.proofs.lemmas.Bool.{eqb-true}
+use Rattle.log_history.specs.History.{Patch, Entry, History, begin, write, commit, abort, reset}
+use Rattle.log_history.specs.Transactions.{OpenTxn, Table, Refusal, already_open, not_open, too_many_open, refusal, unless_open, unless_new, lookup, without, with_write, after, table_of, last_time, last_time_back}
+use Rattle.txn_table.specs.Table.{fault_of}
+use Rattle.txn_table.specs.TableLaws.{table_of-push, reverse_push}
+use Rattle.txn_table.specs.declared.faults.OrderFault.{OrderFault}
+use Rattle.txn_table.specs.declared.faults.OrderFault.TheVariants.{AlreadyOpen, NotOpen, TooManyOpen, OutOfMemory}
 use Rattle.log_record.specs.Layout.{IsRecord, spelling}
+use Rattle.site_model.specs.Openings.{GoesBack, AllGoBack, is_stray, first_stray, stray_back}
 use Rattle.site_model.specs.Runs.{time_after}
-use Rattle.site_model.specs.Spelled.{AllByRecursion-append_right, FirstSpelled, first_spelled, none_spelled}
+use Rattle.site_model.specs.Spelled.{AllByRecursion-append}
 use Rattle.onbar_command.specs.declared.replay.LogState.{LogState}
-use Rattle.onbar_command.specs.Replays.{IsStateOf}
+use Rattle.onbar_command.specs.declared.replay.ReplayFault.{ReplayFault}
+use Rattle.onbar_command.specs.declared.replay.ReplayFault.TheVariants.{BadRecord, OutOfMemory as NoMemory}
+use Rattle.onbar_command.specs.Replays.{IsStateOf, TakesRun, MeetsBad, RunIs}
 
--- of the records that a run of slots spells some are taken, and the rest of the bytes spells the others
-pub record Partway (past entries : History) (now : LogState) (rest : List ℕ) : Type 0 where
-  pub done : History
-  pub others : History
-  pub parts : entries ≡ done ++ others
-  pub state : IsStateOf (past ++ done) now
-  pub bytes : rest ≡ flat_map spelling others
+-- where a transaction isn't open, its records leave the table as it is
+without_none : (txn : ℕ) (table : Table) → lookup txn table ≡ None → without txn table ≡ table
+without_none txn [] none = refl
+without_none txn (o ∷ others) none = by (without_none txn others) (o.txn == txn) none
+  where
+    by : (lookup txn others ≡ None → without txn others ≡ others) → (same : Bool) → (if same then Some o else lookup txn others) ≡ None
+        → (if same then others else o ∷ without txn others) ≡ o ∷ others
+    by rest true is = cc is
+    by rest false is = ap (λ (t : Table). o ∷ t) (rest is)
 
-pub record IsPartway (first now : LogState) (run rest : List ℕ) : Type 0 where
-  pub whole : length rest % 128 ≡ 0
-  pub count : now.end * 128 + length rest ≡ first.end * 128 + length run
-  pub time : now.time ≤ 2 ^ 48
-  pub taken : (past entries : History) → IsStateOf past first → AllByRecursion IsRecord entries → run ≡ flat_map spelling entries
-      → InOrder (past ++ entries) → Partway past entries now rest
+with_write_none : (txn : ℕ) (patch : Patch) (table : Table) → lookup txn table ≡ None → with_write txn patch table ≡ table
+with_write_none txn patch [] none = refl
+with_write_none txn patch (o ∷ others) none = by (with_write_none txn patch others) (o.txn == txn) none
+  where
+    by : (lookup txn others ≡ None → with_write txn patch others ≡ others) → (same : Bool) → (if same then Some o else lookup txn others) ≡ None
+        → (if same then record o { patches = o.patches ++ patch ∷ [] } ∷ others else o ∷ with_write txn patch others) ≡ o ∷ others
+    by rest true is = cc is
+    by rest false is = ap (λ (t : Table). o ∷ t) (rest is)
+
+gone : (found : Option OpenTxn) → unless_open found ≡ Some not_open → found ≡ None
+gone None is = refl
+gone (Some o) is = cc is
+
+-- a record of a transaction that isn't open
+pub passes_over : (at : ℕ) (entry : Entry) (table : Table) → refusal entry table ≡ Some not_open → after at entry table ≡ table
+passes_over at (begin txn) table is = absurd (not_so (lookup txn table) is)
+  where
+    not_so : (found : Option OpenTxn) → (unless_new found (length table)) ≡ Some not_open → ⊥
+    not_so (Some o) e = cc e
+    not_so None e = by (nat_lt (length table) 64) e
+      where
+        by : (few : Bool) → (if few then None else Some too_many_open) ≡ Some not_open → ⊥
+        by true f = cc f
+        by false f = cc f
+passes_over at (write txn patch) table is = with_write_none txn patch table (gone (lookup txn table) is)
+passes_over at (commit txn time) table is = without_none txn table (gone (lookup txn table) is)
+passes_over at (abort txn) table is = without_none txn table (gone (lookup txn table) is)
+passes_over at (reset restore target time) table is = cc is
+
+-- what was refused so was a record of a transaction that isn't open
+pub not_open_is : {T : Type 0} (refused : Option Refusal) (result : Result T OrderFault) → IfSome refused (λ r. IsErrOf result (fault_of r))
+    → IfNone refused (IsOkUnless result OutOfMemory) → result ≡ Err NotOpen → refused ≡ Some not_open
+not_open_is (Some already_open) result some none is = cc (some, is)
+not_open_is (Some not_open) result some none is = refl
+not_open_is (Some too_many_open) result some none is = cc (some, is)
+not_open_is None result some none is = absurd (no_memory result none is)
+  where
+    no_memory : {T : Type 0} (r : Result T OrderFault) → IsOkUnless r OutOfMemory → r ≡ Err NotOpen → ⊥
+    no_memory (Ok x) unless e = cc e
+    no_memory (Err e) unless same = cc (unless, same)
 
 last_time-push : (past : History) (entry : Entry) → last_time (past ++ entry ∷ []) ≡ time_after (last_time past) entry
-last_time-push past entry = ap last_time_back (reverse-push past entry) ∙ by entry
+last_time-push past entry = ap last_time_back (reverse_push past entry) ∙ by entry
   where
     by : (e : Entry) → last_time_back (e ∷ reverse past) ≡ time_after (last_time past) e
     by (begin txn) = refl
@@ -38,54 +82,117 @@ last_time-push past entry = ap last_time_back (reverse-push past entry) ∙ by e
     by (abort txn) = refl
     by (reset restore target time) = refl
 
+-- where a record comes to stand that is the first stray one
+abbrev stray_at : Entry → Table → ℕ → Option ℕ
+stray_at entry table at = if is_stray entry table then Some at else None
+
+first_stray-push : (past : History) (entry : Entry) → first_stray (past ++ entry ∷ []) ≡ option_or (first_stray past) (stray_at entry (table_of past) (length past))
+first_stray-push past entry =
+    ap stray_back (reverse_push past entry) ∙ ap (λ (n : ℕ). option_or (first_stray past) (stray_at entry (table_of past) n)) (length-reverse past)
+
+none_of : (first second : Option ℕ) → option_or first second ≡ None → first ≡ None
+none_of None second is = refl
+none_of (Some n) second is = cc is
+
 -- the state after one record more
 pub state_more : (past : History) (entry : Entry) (old new : LogState) → IsStateOf past old → new.end ≡ old.end + 1
-    → new.open ≡ after (old.end + 1) entry old.open → new.time ≡ time_after old.time entry → IsStateOf (past ++ entry ∷ []) new
-state_more past entry old new was end table time = record {
-  table = table ∙ ap (λ (n : ℕ). after n entry old.open) (let e : old.end + 1 ≡ suc (length past) = omega (arith, was.end) in e)
-      ∙ ap (after (suc (length past)) entry) was.table ∙ sym (table_of-push past entry);
+    → new.time ≡ time_after old.time entry → new.stray ≡ option_or old.stray (if is_stray entry old.open then Some old.end else None)
+    → (old.stray ≡ None → new.stray ≡ None → new.open ≡ after (old.end + 1) entry old.open) → IsStateOf (past ++ entry ∷ []) new
+state_more past entry old new was end time stray table = record {
+  end = omega (arith, was.end, end, length-append past (entry ∷ []));
   time = time ∙ ap (λ (t : ℕ). time_after t entry) was.time ∙ sym (last_time-push past entry);
-  end = omega (arith, was.end, length-append past (entry ∷ []));
+  stray = stray_is;
+  table = λ none.
+      let before : first_stray past ≡ None = none_of (first_stray past) (stray_at entry (table_of past) (length past)) (sym (first_stray-push past entry) ∙ none) in
+      table (was.stray ∙ before) (stray_is ∙ none)
+      ∙ ap (λ (n : ℕ). after n entry old.open) (let e : old.end + 1 ≡ suc (length past) = omega (arith, was.end) in e)
+      ∙ ap (after (suc (length past)) entry) (was.table before) ∙ sym (table_of-push past entry);
+}
+  where
+    by : (first : Option ℕ) → first_stray past ≡ first
+        → option_or (first_stray past) (stray_at entry old.open old.end) ≡ option_or (first_stray past) (stray_at entry (table_of past) (length past))
+    by (Some n) is = rw (is) refl
+    by None is =
+        ap (λ (t : Table). option_or (first_stray past) (stray_at entry t old.end)) (was.table is)
+        ∙ ap (λ (n : ℕ). option_or (first_stray past) (stray_at entry (table_of past) n)) was.end
+
+    stray_is : new.stray ≡ first_stray (past ++ entry ∷ [])
+    stray_is =
+        stray ∙ ap (λ (s : Option ℕ). option_or s (stray_at entry old.open old.end)) was.stray ∙ by (first_stray past) refl ∙ sym (first_stray-push past entry)
+
+-- some records of a run are taken behind others, and the rest of its bytes is left
+pub record Partway (past : History) (run rest : List ℕ) (now : LogState) : Type 0 where
+  pub done : History
+  pub records : AllByRecursion IsRecord done
+  pub back : AllGoBack (reverse (past ++ done))
+  pub bytes : run ≡ flat_map spelling done ++ rest
+  pub state : IsStateOf (past ++ done) now
+
+pub record IsPartway (first now : LogState) (run rest : List ℕ) : Type 0 where
+  pub whole : length rest % 128 ≡ 0
+  pub count : now.end * 128 + length rest ≡ first.end * 128 + length run
+  pub time : now.time ≤ 2 ^ 48
+  pub taken : (past : History) → IsStateOf past first → AllGoBack (reverse past) → Partway past run rest now
+
+pub partway_none : (past : History) (run : List ℕ) (first : LogState) → IsStateOf past first → AllGoBack (reverse past) → Partway past run run first
+partway_none past run first was back = record {
+  done = [];
+  records = tt;
+  back = subst (λ (h : History). AllGoBack (reverse h)) (sym (append-nil past)) back;
+  bytes = refl;
+  state = subst (λ (h : History). IsStateOf h first) (sym (append-nil past)) was;
 }
 
-module _ (past entries : History) (now : LogState) (rest slot : List ℕ) (slot_is : slot ≡ take 128 rest) (long : 128 ≤ length rest)
-    (all : AllByRecursion IsRecord entries) (order : InOrder (past ++ entries)) (way : Partway past entries now rest) where
-  pub others_all : AllByRecursion IsRecord way.others
-  others_all = AllByRecursion-append_right IsRecord way.done way.others (subst (AllByRecursion IsRecord) way.parts all)
+-- one record more
+pub partway_more : (past : History) (run rest slot others : List ℕ) (old new : LogState) (entry : Entry) → Partway past run rest old
+    → IsRecord entry → GoesBack old.end entry → slot ≡ spelling entry → slot ≡ take 128 rest → others ≡ drop 128 rest
+    → new.end ≡ old.end + 1 → new.time ≡ time_after old.time entry → new.stray ≡ option_or old.stray (if is_stray entry old.open then Some old.end else None)
+    → (old.stray ≡ None → new.stray ≡ None → new.open ≡ after (old.end + 1) entry old.open) → Partway past run others new
+partway_more past run rest slot others old new entry way is_record goes slot_is first_is others_is end time stray table = record {
+  done = way.done ++ entry ∷ [];
+  records = AllByRecursion-append IsRecord way.done (entry ∷ []) way.records (is_record, tt);
+  back = subst (λ (h : History). AllGoBack (reverse h)) regrouped
+      (subst AllGoBack (sym (reverse_push (past ++ way.done) entry))
+      (subst (λ (n : ℕ). GoesBack n entry) (way.state.end ∙ sym (length-reverse (past ++ way.done))) goes, way.back));
+  bytes = way.bytes
+      ∙ ap (λ (l : List ℕ). flat_map spelling way.done ++ l) (sym (take-append-drop 128 rest) ∙ ap (λ (l : List ℕ). l ++ drop 128 rest) (sym first_is ∙ slot_is) ∙ ap (λ (l : List ℕ). spelling entry ++ l) (sym others_is))
+      ∙ sym (append_assoc (flat_map spelling way.done) (spelling entry) others)
+      ∙ ap (λ (l : List ℕ). l ++ others) (ap (λ (l : List ℕ). flat_map spelling way.done ++ l) (sym (append-nil (spelling entry))) ∙ sym (flat_map-append spelling way.done (entry ∷ [])));
+  state = subst (λ (h : History). IsStateOf h new) regrouped (state_more (past ++ way.done) entry old new way.state end time stray table);
+}
+  where
+    regrouped : (past ++ way.done) ++ entry ∷ [] ≡ past ++ (way.done ++ entry ∷ [])
+    regrouped = append_assoc past way.done (entry ∷ [])
 
-  abbrev pub next : FirstSpelled way.others rest
-  next = first_spelled way.others rest others_all way.bytes long
-
-  pub next_is_record : IsRecord next.first
-  next_is_record = next.is_record
-
-  pub slot_spells : slot ≡ spelling next.first
-  slot_spells = slot_is ∙ next.first_bytes
-
-  regrouped : past ++ entries ≡ (past ++ way.done) ++ next.first ∷ next.others
-  regrouped = ap (λ (h : History). past ++ h) (way.parts ∙ ap (λ (h : History). way.done ++ h) next.splits) ∙ sym (append_assoc past way.done (next.first ∷ next.others))
-
-  -- the next record isn't refused
-  pub next_allowed : refusal next.first now.open ≡ None
-  next_allowed =
-      ap (refusal next.first) way.state.table
-      ∙ may_follow_not_refused (reverse (past ++ way.done)) next.first (may_follow_at (past ++ way.done) next.first next.others (subst InOrder regrouped order))
-
-  -- and once it is taken the run is one record further
-  pub partway_more : (new : LogState) → new.end ≡ now.end + 1 → new.open ≡ after (now.end + 1) next.first now.open
-      → new.time ≡ time_after now.time next.first → (left : List ℕ) → left ≡ drop 128 rest → Partway past entries new left
-  partway_more new end table time left left_is = record {
-    done = way.done ++ next.first ∷ [];
-    others = next.others;
-    parts = way.parts ∙ ap (λ (h : History). way.done ++ h) next.splits ∙ sym (append_assoc way.done (next.first ∷ []) next.others);
-    state = subst (λ (h : History). IsStateOf h new) (append_assoc past way.done (next.first ∷ [])) (state_more (past ++ way.done) next.first now new way.state end table time);
-    bytes = left_is ∙ next.rest_bytes;
-  }
+no_bytes : (rest : List ℕ) → length rest ≡ 0 → rest ≡ []
+no_bytes [] none = refl
+no_bytes (b ∷ bs) none = absurd (omega (arith, none))
 
 -- at the end of the run all its records are taken
-pub all_taken : (past entries : History) (now : LogState) (rest : List ℕ) → AllByRecursion IsRecord entries → Partway past entries now rest
-    → length rest ≡ 0 → IsStateOf (past ++ entries) now
-all_taken past entries now rest all way none =
-    let gone = none_spelled way.others rest (AllByRecursion-append_right IsRecord way.done way.others (subst (AllByRecursion IsRecord) way.parts all)) way.bytes none in
-    let whole : way.done ≡ entries = sym (way.parts ∙ ap (λ (h : History). way.done ++ h) gone ∙ append-nil way.done) in
-    subst (λ (h : History). IsStateOf (past ++ h) now) whole way.state
+pub all_taken : (past : History) (run rest : List ℕ) (now : LogState) → Partway past run rest now → length rest ≡ 0 → TakesRun past run now
+all_taken past run rest now way none = record {
+  entries = way.done;
+  records = way.records;
+  back = way.back;
+  bytes = way.bytes ∙ ap (λ (l : List ℕ). flat_map spelling way.done ++ l) (no_bytes rest none) ∙ append-nil (flat_map spelling way.done);
+  state = way.state;
+}
+
+-- or the next of them is bad
+pub meets_bad : (past : History) (run rest slot : List ℕ) (now : LogState) → Partway past run rest now → slot ≡ take 128 rest → 128 ≤ length rest
+    → ((entry : Entry) → IsRecord entry → GoesBack now.end entry → slot ≡ spelling entry → ⊥) → MeetsBad past run now.end
+meets_bad past run rest slot now way first_is long none = record {
+  entries = way.done;
+  rest = rest;
+  records = way.records;
+  back = way.back;
+  bytes = way.bytes;
+  whole = long;
+  place = sym way.state.end;
+  bad = λ entry is goes spelled. none entry is goes (first_is ∙ spelled);
+}
+
+-- a fault that names no slot says nothing of the run
+pub no_slot : (past : History) (run : List ℕ) (now : LogState) (e : ReplayFault) → ((slot : ℕ) → IsErrOf {T = Unit {0}} (Err e) (BadRecord slot) → ⊥) → RunIs past run now (Err e)
+no_slot past run now (BadRecord slot) none = absurd (none slot refl)
+no_slot past run now NoMemory none = tt

@@ -1,28 +1,32 @@
 -- What the two disks of a form say of all disks of a site.
-use Rattle.std.proofs.Common.{◌≡◌, inl, inr, ℕ, ◌+◌, ◌<◌, ◌≤◌, List, [], ◌∷◌, ◌++◌, length, map, count_by, Option, None, Some, slice_get, Result, Ok, Err, refl, sym, ◌∙◌, ap, subst, arith}
+use Rattle.std.proofs.Common.{◌≡◌, ◌⊎◌, Bool, true, ⊎_elim, inl, inr, ℕ, ◌+◌, ◌<◌, ◌≤◌, List, [], ◌∷◌, ◌++◌, length, map, count_by, Option, None, Some, slice_get, Result, Ok, Err, refl, sym, ◌∙◌, ap, subst, arith}
 use Rattle.std.proofs.lemmas.Bool.{cases_lt}
 use Rattle.std.proofs.Math.Seq.{drop-append_seam}
 use Rattle.log_history.specs.History.{History}
 use Rattle.onbar_grammar.specs.Script.{raw_lines}
 use Rattle.site_disk.specs.Ledger.{EraView, Ledger, MayUse}
+use Rattle.std.specs.Prelude.{MatchOption, IfSome}
+use Rattle.site_headers.specs.Heads.{Head, IsHead}
 use Rattle.site_headers.specs.Headers.{HasHeader, catalogue_tail}
+use Rattle.site_headers.specs.HeaderLaws.{one_catalogue_header}
 use Rattle.site_model.specs.declared.disk_name.DiskName.{DiskName}
 use Rattle.site_model.specs.declared.disk_name.DiskName.TheVariants.{Cat, Spare, Boot, Log, Volume, Chunk}
 use Rattle.site_model.specs.declared.status.Status.{Status}
+use Rattle.site_model.specs.declared.status.Status.TheVariants.{Ok as Done}
 use Rattle.site_model.specs.Commands.{IsAmong, IsPassed, frame_of, IsSound}
 use Rattle.site_model.specs.Layouts.{Shows, StandFor, HoldsLog, HasNoCatalogue}
-use Rattle.site_model.specs.Runs.{Run, Ending, run_of, run_form, run_lines, first_place, transactions}
+use Rattle.site_model.specs.Runs.{Run, Ending, refused, run_of, run_lines, first_place, transactions}
 use Rattle.site_model.specs.Steps.{Passes, StandsAmong, ShowsOrRests}
 use Rattle.site_model.specs.Stops.{KeepsPromise, promise}
 use Rattle.site_model.specs.Texts.{counts_text, extension_text, status_text, is_commit_entry}
 use Rattle.site_model.specs.Worlds.{Site, World, unformatted, formatted, with_history, IsFit}
 use Rattle.onbar_command.specs.declared.extending.Extended.{Extended}
-use Rattle.onbar_command.specs.declared.formatted.HeadFault.{HeadFault}
-use Rattle.onbar_command.specs.declared.formatted.HeadFault.TheVariants.{NotFormatted as HeadMissing, Failed as HeadFailed, OutOfMemory as HeadMemory}
+use Rattle.onbar_command.specs.declared.report.Report.{Report}
+use Rattle.onbar_command.specs.declared.report.Report.TheVariants.{Formatted, Extended as LogExtended}
 use Rattle.onbar_command.specs.declared.site.SiteDisks.{SiteDisks}
 use Rattle.onbar_command.specs.Disks.{bytes_or, contents_of, disk_of, image_or, images_of, may_or, scene_of, MayUseAll, Rests}
-use Rattle.onbar_command.specs.Extending.{ExtendsTo, head_status}
-use Rattle.onbar_command.specs.Forms.{Finishes}
+use Rattle.onbar_command.specs.Extending.{ExtendsTo}
+use Rattle.onbar_command.specs.Forms.{IsDone, Finishes}
 use Rattle.onbar_command.specs.Walks.{IsOneOf, IsOnTheWay, LogWalk}
 
 module _ {D : Type 0} (disks : SiteDisks D) (cat log : D) where
@@ -101,12 +105,11 @@ module _ {D : Type 0} (disks : SiteDisks D) (cat log : D) (bytes_of : D → List
   abbrev pub ending_here : Ending
   ending_here = run_lines site.head.spaces moment (raw_lines script) (first_place site.history)
 
-  pub finishes_so : (after : List ℕ) (result : Result Extended Status) → ExtendsTo site ending_here after start now (bytes_of log) old (image log) result
+  pub extended_done : (after : List ℕ) (told : Extended) → ExtendsTo site ending_here after start now (bytes_of log) old (image log) (Ok told)
       → HasHeader (catalogue_tail site.head) (bytes_of cat)
       → ((f : ℕ) (c : List ℕ) → now < f → image cat f c → HasHeader (catalogue_tail site.head) c)
-      → Finishes run_here after (contents_of bytes_of (moved disks cat log)) (now + 1) (frame_of entry (images_of image disks) rests) (images_of image (moved disks cat log)) result
-  finishes_so after (Err status) is header later = inl is.0
-  finishes_so after (Ok told) is header later =
+      → IsDone true run_here after (contents_of bytes_of (moved disks cat log)) (now + 1) (frame_of entry (images_of image disks) rests) (images_of image (moved disks cat log)) (Ok (LogExtended told))
+  extended_done after told is header later =
       let last : run_here.last ≡ with_history site (site.history ++ is.added) = ap (with_history site) is.last in
       record {
         status = is.status;
@@ -116,11 +119,11 @@ module _ {D : Type 0} (disks : SiteDisks D) (cat log : D) (bytes_of : D → List
             ∙ ap (λ (n : ℕ). counts_text told.counts.lines n (length (site.history ++ is.added))) (sym is.commits)
             ∙ ap (λ (n : ℕ). counts_text told.counts.lines told.counts.commits n) (sym is.end))
             ∙ ap (λ (s : Status). counts_text told.counts.lines told.counts.commits told.end ++ status_text s) is.status;
-        reads = subst (λ (w : World). StandFor (contents_of bytes_of (moved disks cat log)) w) (sym last)
+        stands = subst (λ (w : World). StandFor (contents_of bytes_of (moved disks cat log)) w) (sym last)
             (stand_for disks cat log bytes_of (with_history site (site.history ++ is.added)) header is.holds);
         crash = λ f le. stands_so disks cat log image entry rests (λ world. world ≡ run_here.last) f
             (λ a b of_cat of_log. (with_history site (site.history ++ is.added), sym last, inl (later f a (omega arith) of_cat), inl (is.later f b (omega arith) of_log)));
-        read = is.read;
+        read = λ reads. is.read;
       }
 
   -- where a stop may leave it
@@ -136,25 +139,48 @@ module _ {D : Type 0} (disks : SiteDisks D) (cat log : D) (bytes_of : D → List
         | inr within ↦ (formatted site, inl refl, inl (of_cat f a lt cat_image), inl (of_log f b lt (walk.earlier f b within log_image)))
       ]
 
--- the site's head can't be had: it isn't formatted, or that was cut short
-pub head_finishes : {D : Type 0} (disks : SiteDisks D) (cat log : D) (bytes_of : D → List ℕ) (image : D → ℕ → List ℕ → Type 0) (entry now : ℕ) (rests : DiskName → Type 0)
-    (moment : ℕ) (script after : List ℕ) (fault : HeadFault) (world : World) → IsFit world
-    → (fault ≡ HeadMissing → HasNoCatalogue (bytes_of cat) × Shows Cat world (bytes_of cat))
-    → ((f : ℕ) (c : List ℕ) → now < f → image cat f c → Shows Cat world c)
-    → Finishes (run_form moment world script None) after (contents_of bytes_of (moved disks cat log)) (now + 1) (frame_of entry (images_of image disks) rests)
-    (images_of image (moved disks cat log)) (Err (head_status fault))
-head_finishes disks cat log bytes_of image entry now rests moment script after HeadFailed world fit missing later = inl tt
-head_finishes disks cat log bytes_of image entry now rests moment script after HeadMemory world fit missing later = inl tt
-head_finishes disks cat log bytes_of image entry now rests moment script after HeadMissing (formatted site) fit missing later =
-    let found = missing refl in absurd (found.0 site.head fit.head found.1)
-head_finishes disks cat log bytes_of image entry now rests moment script after HeadMissing unformatted fit missing later = inr (record {
-  status = refl;
-  text = refl;
-  reads = stand_for disks cat log bytes_of unformatted (let found = missing refl in found.1) tt;
-  crash = λ f le. stands_so disks cat log image entry rests (λ world. world ≡ unformatted) f
-      (λ a b of_cat of_log. (unformatted, refl, inl (later f a (omega arith) of_cat), inl tt));
-  read = λ is. absurd (cc);
-})
+-- a disk was synced, so that it is what it read as, or was left alone
+module _ {D : Type 0} (disks : SiteDisks D) (cat log : D) (bytes_of : D → List ℕ) (image : D → ℕ → List ℕ → Type 0) (ledger : D → Ledger) (entry : ℕ)
+    (cat_none : (f : ℕ) (c : List ℕ) → image cat f c → image disks.cat f c) (log_none : (f : ℕ) (c : List ℕ) → image log f c → image disks.log f c) where
+  -- a form that has only entered the site
+  pub entered : ((f : ℕ) (c : List ℕ) → entry + 1 < f → image cat f c → (c ≡ bytes_of disks.cat) ⊎ ((ledger cat).synced ≡ (ledger disks.cat).synced))
+      → ((f : ℕ) (c : List ℕ) → entry + 1 < f → image log f c → (c ≡ bytes_of disks.log) ⊎ ((ledger log).synced ≡ (ledger disks.log).synced))
+      → (world : World) → StandFor (contents_of bytes_of disks) world → (passed : World → Type 0) → passed world
+      → Passes (frame_of entry (images_of image disks) (Rests ledger disks (moved disks cat log)) passed) (images_of image (moved disks cat log))
+  entered cat_shows log_shows world stand passed counts =
+      passes_so disks cat log image entry (Rests ledger disks (moved disks cat log)) passed (λ f c le is. cat_none f c is) (λ f c le is. log_none f c is)
+      (λ f lt a b of_cat of_log. (
+        world,
+        counts,
+        ⊎_elim (λ same. inl (subst (λ (c : List ℕ). Shows Cat world c) (sym same) (stand Cat))) (λ rests. inr (rests, cat_none f a of_cat)) (cat_shows f a lt of_cat),
+        ⊎_elim (λ same. inl (subst (λ (c : List ℕ). Shows Log world c) (sym same) (stand Log))) (λ rests. inr (rests, log_none f b of_log)) (log_shows f b lt of_log),
+      ))
+
+  -- a form that was refused at its entry
+  module _ (now : ℕ) (within : entry + 1 ≤ now) (cat_only : (f : ℕ) (c : List ℕ) → entry + 1 < f → image cat f c → c ≡ bytes_of disks.cat)
+      (log_only : (f : ℕ) (c : List ℕ) → entry + 1 < f → image log f c → c ≡ bytes_of disks.log)
+      (cat_bytes : bytes_of cat ≡ bytes_of disks.cat) (log_bytes : bytes_of log ≡ bytes_of disks.log) where
+    pub refused_done : (world : World) → StandFor (contents_of bytes_of disks) world → (reads : Bool) (after : List ℕ) (status : Status) → (status ≡ Done → ⊥)
+        → IsDone reads (refused world status) after (contents_of bytes_of (moved disks cat log)) (now + 1) (frame_of entry (images_of image disks) (Rests ledger disks (moved disks cat log)))
+        (images_of image (moved disks cat log)) (Err status)
+    refused_done world stand reads after status not_done = record {
+      status = refl;
+      text = refl;
+      stands = stand_for disks cat log bytes_of world (subst (λ (c : List ℕ). Shows Cat world c) (sym cat_bytes) (stand Cat))
+          (subst (λ (c : List ℕ). Shows Log world c) (sym log_bytes) (stand Log));
+      crash = λ f le. stands_so disks cat log image entry (Rests ledger disks (moved disks cat log)) (λ w. w ≡ world) f
+          (λ a b of_cat of_log. (
+            world,
+            refl,
+            inl (subst (λ (c : List ℕ). Shows Cat world c) (sym (cat_only f a (omega (arith, within, le)) of_cat)) (stand Cat)),
+            inl (subst (λ (c : List ℕ). Shows Log world c) (sym (log_only f b (omega (arith, within, le)) of_log)) (stand Log)),
+          ));
+      read = λ r is. absurd (not_done is);
+    }
+
+-- the same where the disks' record is one that equals it
+pub in_place : {D : Type 0} (P : SiteDisks D → Type 0) (new old : SiteDisks D) → new ≡ old → P old → P new
+in_place P new old same is = subst P (sym same) is
 
 module _ {D : Type 0} (ledger : D → Ledger) (era later : EraView) (key : later.key ≡ era.key) (le : era.number ≤ later.number) where
   may_later : (disk : Option D) → may_or ledger era disk → may_or ledger later disk
@@ -172,6 +198,13 @@ module _ {D : Type 0} (ledger : D → Ledger) (era later : EraView) (key : later
       rw volumes (may_later (slice_get old.volumes.items n) (may (Volume n)))
   may_all old new spare boot volumes chunks may cat log (Chunk n) =
       rw chunks (may_later (slice_get old.chunks.items n) (may (Chunk n)))
+
+  -- where two disks were used
+  pub may_moved : (old new : SiteDisks D) → new ≡ record old { cat = new.cat; log = new.log } → MayUseAll ledger era old
+      → MayUse later (ledger new.cat) → MayUse later (ledger new.log) → MayUseAll ledger later new
+  may_moved old new same may cat log =
+      may_all old new (ap (λ (d : SiteDisks D). d.spare) same) (ap (λ (d : SiteDisks D). d.boot) same) (ap (λ (d : SiteDisks D). d.volumes) same)
+      (ap (λ (d : SiteDisks D). d.chunks) same) may cat log
 
   pub may_all_later : (disks : SiteDisks D) → MayUseAll ledger era disks → MayUseAll ledger later disks
   may_all_later disks may name = may_later (disk_of disks name) (may name)
@@ -202,3 +235,19 @@ module _ {D : Type 0} (bytes : D → List ℕ) (image : D → ℕ → List ℕ �
   promised_so old new world run may passes sound =
       promise (scene_of bytes image ledger era.number old new world run) passes sound
       (λ name. reads_or (disk_of old name) (may name)) (λ f name c lt is. counts_or (disk_of old name) (may name) f c lt is)
+
+pub at_none : {X : Type 0} (found : Option X) (A : Type 0) (B : X → Type 0) → found ≡ None → MatchOption found A B → A
+at_none {X} found A B is holds = subst (λ (o : Option X). MatchOption o A B) is holds
+
+pub at_some : {X : Type 0} (found : Option X) (x : X) (A : Type 0) (B : X → Type 0) → found ≡ Some x → MatchOption found A B → B x
+at_some {X} found x A B is holds = subst (λ (o : Option X). MatchOption o A B) is holds
+
+pub if_some : {X : Type 0} (found : Option X) (x : X) (B : X → Type 0) → found ≡ Some x → IfSome found B → B x
+if_some {X} found x B is holds = subst (λ (o : Option X). IfSome o B) is holds
+
+-- no disk has two catalogue headers
+pub one_head : (a b : Head) (file : List ℕ) → IsHead a → IsHead b → HasHeader (catalogue_tail a) file → HasHeader (catalogue_tail b) file → a ≡ b
+one_head a b file head_a head_b first second = one_catalogue_header a b head_a head_b (sym first.tail_stands ∙ second.tail_stands)
+
+pub with_log : {D : Type 0} (log : D) (new old : SiteDisks D) → new ≡ old → record new { log = log } ≡ record old { log = log }
+with_log {D} log new old same = ap {A = SiteDisks D} {B = SiteDisks D} (λ (d : SiteDisks D). record d { log = log }) same

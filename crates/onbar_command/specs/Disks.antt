@@ -1,5 +1,5 @@
 -- What the disks of a site hold, by name.
-use Rattle.std.specs.Prelude.{◌≡◌, ℕ, List, [], slice_get, Option, None, Some}
+use Rattle.std.specs.Prelude.{◌≡◌, ◌≤◌, ℕ, List, [], slice_get, Option, None, Some}
 use Rattle.site_disk.specs.Ledger.{EraView, Ledger, MayUse}
 use Rattle.site_model.specs.declared.disk_name.DiskName.{DiskName}
 use Rattle.site_model.specs.declared.disk_name.DiskName.TheVariants.{Cat, Spare, Boot, Log, Volume, Chunk}
@@ -8,6 +8,12 @@ use Rattle.site_model.specs.Steps.{ImagesOf}
 use Rattle.site_model.specs.Stops.{Scene}
 use Rattle.site_model.specs.Worlds.{World}
 use Rattle.onbar_command.specs.declared.site.SiteDisks.{SiteDisks}
+
+-- nothing was written on a disk: it reads as before, and a crash leaves no more of it
+pub record IsKept (old_ledger new_ledger : Ledger) (old_bytes new_bytes : List ℕ) (old new : ℕ → List ℕ → Type 0) : Type 0 where
+  pub written : new_ledger.written ≤ old_ledger.written
+  pub bytes : new_bytes ≡ old_bytes
+  pub images : (f : ℕ) (c : List ℕ) → new f c → old f c
 
 module _ {D : Type 0} where
   abbrev pub disk_of : SiteDisks D → DiskName → Option D
@@ -56,6 +62,16 @@ module _ {D : Type 0} where
   -- all disks have the era's key, and none has used a later era
   abbrev pub MayUseAll : (D → Ledger) → EraView → SiteDisks D → Type 0
   MayUseAll ledger era disks = (name : DiskName) → may_or ledger era (disk_of disks name)
+
+  abbrev pub written_or : (D → Ledger) → Option D → ℕ
+  written_or ledger None = 0
+  written_or ledger (Some disk) = (ledger disk).written
+
+  -- nothing was written on any disk
+  pub record AreKept (bytes : D → List ℕ) (image : D → ℕ → List ℕ → Type 0) (ledger : D → Ledger) (old new : SiteDisks D) : Type 0 where
+    pub written : (name : DiskName) → written_or ledger (disk_of new name) ≤ written_or ledger (disk_of old name)
+    pub reads : (name : DiskName) → contents_of bytes new name ≡ contents_of bytes old name
+    pub images : (f : ℕ) (name : DiskName) (c : List ℕ) → images_of image new f name c → images_of image old f name c
 
   -- a command from one era on: what it makes of a world, and the disks before and after it
   abbrev pub scene_of : (D → List ℕ) → (D → ℕ → List ℕ → Type 0) → (D → Ledger) → ℕ → SiteDisks D → SiteDisks D → World → Run → Scene

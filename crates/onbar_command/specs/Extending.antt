@@ -1,9 +1,9 @@
 -- What extending the log by a script comes to.
 use Rattle.std.specs.Prelude.{◌≡◌, ℕ, ◌<◌, List, [], ◌++◌, length, count_by, Result, Ok, Err}
 use Rattle.log_history.specs.History.{History}
-use Rattle.site_model.specs.declared.disk_name.DiskName.TheVariants.{Cat, Log}
+use Rattle.site_model.specs.declared.disk_name.DiskName.TheVariants.{Log}
 use Rattle.site_model.specs.declared.status.Status.{Status}
-use Rattle.site_model.specs.declared.status.Status.TheVariants.{Ok as Done, OutOfMemory as NoMemory, ReadFault as SourceFault, DiskFault as DeviceFault, ScriptFault, NotFormatted as Unformatted, BadRecord as BadSlot, LogLost as Lost, LogFull}
+use Rattle.site_model.specs.declared.status.Status.TheVariants.{Ok as Done, OutOfMemory as NoMemory, ReadFault as SourceFault, DiskFault as DeviceFault, ScriptFault, BadRecord as BadSlot, LogLost as Lost, LogFull}
 use Rattle.site_model.specs.declared.status.LogFull.TheVariants.{Positions}
 use Rattle.site_model.specs.Commands.{CutsShort}
 use Rattle.site_model.specs.Layouts.{HoldsLog}
@@ -12,19 +12,12 @@ use Rattle.site_model.specs.Runs.{Ending}
 use Rattle.site_model.specs.Texts.{is_commit_entry}
 use Rattle.site_model.specs.Worlds.{Site}
 use Rattle.onbar_command.specs.declared.extending.Extended.{Extended}
-use Rattle.onbar_command.specs.declared.formatted.HeadFault.{HeadFault}
-use Rattle.onbar_command.specs.declared.formatted.HeadFault.TheVariants.{NotFormatted, Failed as CatFailed, OutOfMemory as HeadMemory}
 use Rattle.onbar_command.specs.declared.opening.OpenFault.{OpenFault}
 use Rattle.onbar_command.specs.declared.opening.OpenFault.TheVariants.{LogLost, BadRecord, Failed as LogFailed, OutOfMemory as LogMemory}
 use Rattle.onbar_command.specs.declared.transactions.Stop.{Stop}
 use Rattle.onbar_command.specs.declared.transactions.Stop.TheVariants.{End, Fault, Full, ReadFault, DiskFault, OutOfMemory}
 use Rattle.onbar_command.specs.declared.transactions.Work.{Work}
 use Rattle.onbar_command.specs.Walks.{LogWalk}
-
-abbrev pub head_status : HeadFault → Status
-head_status NotFormatted = Unformatted
-head_status CatFailed = DeviceFault Cat
-head_status HeadMemory = NoMemory
 
 abbrev pub log_status : OpenFault → Status
 log_status LogLost = Lost
@@ -39,6 +32,16 @@ report_of Full work = Ok (record { counts = work.counts; end = work.slots.used; 
 report_of ReadFault work = Err SourceFault
 report_of DiskFault work = Err (DeviceFault Log)
 report_of OutOfMemory work = Err NoMemory
+
+-- the statuses at which the work of a script is done
+abbrev pub EndsScript : Status → Type 0
+EndsScript Done = Unit {0}
+EndsScript (ScriptFault line why) = Unit {0}
+EndsScript (LogFull why) = Unit {0}
+EndsScript status = ⊥
+
+abbrev pub IsUncut : Extended → Type 0
+IsUncut told = EndsScript told.status
 
 -- The run was done: the log holds the last of its logs, and a crash in an era behind the present one leaves that.
 pub record IsExtended (site : Site) (ending : Ending) (after : List ℕ) (start now : ℕ) (bytes : List ℕ) (old new : ℕ → List ℕ → Type 0) (told : Extended) : Type 0 where

@@ -1,53 +1,32 @@
 // The command `onbar`.
-ghost use Rattle.std.specs.Prelude.{◌≡◌, ◌⊎◌, ◌+◌, ◌*◌, ◌-◌, ◌<◌, ◌≤◌, ◌^◌, ℕ, Some, length, map, string_bytes, IsTrue, IfOk};
-ghost use Rattle.onbar_grammar.specs.Words.{refused_word};
+ghost use Rattle.std.specs.Prelude.{◌≡◌, ◌⊎◌, ◌+◌, ◌*◌, ◌-◌, ◌<◌, ◌≤◌, ◌^◌, ◌++◌, ℕ, Some, true, false, length, map, string_bytes, IsTrue};
+ghost use Rattle.onbar_grammar.specs.Words.{command_of};
 ghost use Rattle.onbar_words.specs.Cutting.{TakesFront};
 ghost use Rattle.site_disk.specs.Causes.{Rose};
 ghost use Rattle.site_model.specs.declared.disk_name.DiskName.{DiskName};
 ghost use Rattle.site_model.specs.Commands.{CutsShort, Did, IsPassed, IsSound, Printed, ReadsOf, frame_of};
 ghost use Rattle.site_model.specs.Layouts.{StandFor};
-ghost use Rattle.site_model.specs.Runs.{run};
+ghost use Rattle.site_model.specs.Openings.{IsOfDisks, IsOpenable, IsRefused, IsUsage, OpensFor};
+ghost use Rattle.site_model.specs.Runs.{reads_script, run, usage_word};
 ghost use Rattle.site_model.specs.Steps.{Passes};
 ghost use Rattle.site_model.specs.Stops.{KeepsPromise};
-ghost use Rattle.site_model.specs.Worlds.{World, IsFit};
-ghost use Rattle.onbar_command.specs.Disks.{contents_of, images_of, faults_of, scene_of, Rests, MayUseAll};
-ghost use Rattle.onbar_command.specs.Forms.{text_told, status_told};
+ghost use Rattle.site_model.specs.Texts.{status_text};
+ghost use Rattle.site_model.specs.Worlds.{World};
+ghost use Rattle.site_model.specs.declared.status.Status.{Status};
+ghost use Rattle.site_model.specs.declared.status.Status.TheVariants.{Usage};
+ghost use Rattle.onbar_command.specs.Disks.{contents_of, images_of, faults_of, scene_of, AreKept, Rests, MayUseAll};
 
-use crate::extending::Extended;
 use crate::form::run_words;
 use crate::printing::print_all;
+use crate::report::{told_status, told_text};
 use crate::site::Site;
-use crate::text::{counts_line, status_line};
 use site_disk::{Disk, Era, Failed, Sink, Source};
 use site_model::Status;
 use std::alloc::{AllocError, Global};
 use std::thread::Threads;
 
-/// All that a command prints.
-fn told_text(alloc: Global, done: &Result<Extended, Status>) -> Result<String, AllocError>
-    ensures { IfOk result (λ text. string_bytes text ≡ text_told done.now) }
-{
-    match done {
-        Ok(told) => {
-            let mut text = counts_line(alloc, told.counts.lines, told.counts.commits, told.end)?;
-            let last = status_line(alloc, &told.status)?;
-            text.push_str(&last)?;
-            Ok(text)
-        }
-        Err(status) => status_line(alloc, status),
-    }
-}
-
-fn told_status(done: Result<Extended, Status>) -> Status
-    ensures { result ≡ status_told done }
-{
-    match done {
-        Ok(told) => told.status,
-        Err(status) => status,
-    }
-}
-
-/// Does what the words say at a moment, in seconds from 1970: `-T` extends the log by the transactions of a script.
+/// Does what the words say at a moment, in seconds from 1970: `-init` formats a site, `-T` extends its log by the
+/// transactions of a script.
 ///
 /// The text is printed once the work is done. Where the command is cut short it says nothing of what stands: the next one
 /// finds it.
@@ -66,31 +45,40 @@ pub fn onbar<R: Threads + Sync, D: Disk + Send, S: Source, K: Sink>(
     requires number { era.old.number ≤ 2 ^ 63 }
     requires moment { moment ≤ 253402300799 }
 
+    // The disks may hold any bytes. Either a form is refused for them, and at a refusal nothing is written, or they stand for
+    // a world that can be opened.
+    ensures refused { IsTrue D.tells → IsTrue K.tells → (status : Status) → IsRefused (map string_bytes words.now) (contents_of D.bytes site.old.disks) status
+        → CutsShort result ⊎ ((result ≡ status) × (K.taken out.new ≡ K.taken out.old ++ status_text status)) }
+    ensures cause { IsTrue D.tells → IsOfDisks result → IsRefused (map string_bytes words.now) (contents_of D.bytes site.old.disks) result }
+    ensures untouched { IsOfDisks result → AreKept D.bytes D.image D.ledger site.old.disks site.new.disks }
+    ensures opens { IsTrue D.tells → CutsShort result ⊎ (IsUsage (map string_bytes words.now) result ⊎ (IsOfDisks result ⊎ OpensFor (map string_bytes words.now) (contents_of D.bytes site.old.disks))) }
+
     // Wherever the command is stopped, each choice of crash images stands for a world of its run.
-    ensures stopped { IsTrue D.tells → IsTrue S.tells → (world : World) → IsFit world → StandFor (contents_of D.bytes site.old.disks) world
+    ensures stopped { IsTrue D.tells → IsTrue S.tells → (world : World) → IsOpenable world → StandFor (contents_of D.bytes site.old.disks) world
         → Passes (frame_of era.old.number (images_of D.image site.old.disks) (Rests D.ledger site.old.disks site.new.disks)
         (IsPassed world (run (map string_bytes words.now) moment world (S.left script.old)))) (images_of D.image site.new.disks) }
     // The same in plain words, where the crash images at entry stand for fit worlds.
-    ensures promised { IsTrue D.tells → IsTrue S.tells → (world : World) → IsFit world → StandFor (contents_of D.bytes site.old.disks) world
+    ensures promised { IsTrue D.tells → IsTrue S.tells → (world : World) → IsOpenable world → StandFor (contents_of D.bytes site.old.disks) world
         → IsSound era.old.number (images_of D.image site.old.disks)
         → KeepsPromise (scene_of D.bytes D.image D.ledger era.old.number site.old.disks site.new.disks world (run (map string_bytes words.now) moment world (S.left script.old))) }
     // At any status but those that cut it short it did what its run says: status, text, disks, and what a crash leaves.
-    ensures whole { IsTrue D.tells → IsTrue S.tells → IsTrue K.tells → (world : World) → IsFit world → StandFor (contents_of D.bytes site.old.disks) world
+    ensures whole { IsTrue D.tells → IsTrue S.tells → IsTrue K.tells → (world : World) → IsOpenable world → StandFor (contents_of D.bytes site.old.disks) world
         → (CutsShort result → ⊥)
         → Did (run (map string_bytes words.now) moment world (S.left script.old)) result (K.taken out.old) (K.taken out.new) (contents_of D.bytes site.new.disks) era.new.number
         (frame_of era.old.number (images_of D.image site.old.disks) (Rests D.ledger site.old.disks site.new.disks)) (images_of D.image site.new.disks) }
-    ensures cut { IsTrue D.tells → IsTrue S.tells → IsTrue K.tells → (world : World) → IsFit world → StandFor (contents_of D.bytes site.old.disks) world
+    ensures cut { IsTrue D.tells → IsTrue S.tells → IsTrue K.tells → (world : World) → IsOpenable world → StandFor (contents_of D.bytes site.old.disks) world
         → CutsShort result
         → Printed (run (map string_bytes words.now) moment world (S.left script.old)) (K.taken out.old) (K.taken out.new) era.new.number
         (frame_of era.old.number (images_of D.image site.old.disks) (Rests D.ledger site.old.disks site.new.disks)) (images_of D.image site.new.disks) }
-    ensures script { IsTrue D.tells → IsTrue S.tells → (world : World) → IsFit world → StandFor (contents_of D.bytes site.old.disks) world
+    ensures script { IsTrue D.tells → IsTrue S.tells → (world : World) → IsOpenable world → StandFor (contents_of D.bytes site.old.disks) world
         → ReadsOf (map string_bytes words.now) result (S.left script.old) (S.left script.new) }
-    ensures usage { (n : ℕ) → refused_word (map string_bytes words.now) ≡ Some n
+    ensures usage { (n : ℕ) → usage_word (map string_bytes words.now) ≡ Some n
         → (site.new ≡ site.old) × (script.new ≡ script.old)
         × ((result ≡ Status.Usage n) ⊎ ((result ≡ Status.OutOfMemory) ⊎ (result ≡ Status.WriteFault))) }
+    ensures usage_text { IsTrue K.tells → (n : ℕ) → result ≡ Status.Usage n → K.taken out.new ≡ K.taken out.old ++ status_text (Usage n) }
 
     // Where no device, source or sink failed, nothing but want of memory keeps it from what its run says.
-    ensures complete { IsTrue D.tells → IsTrue S.tells → IsTrue K.tells → (world : World) → IsFit world → StandFor (contents_of D.bytes site.old.disks) world
+    ensures complete { IsTrue D.tells → IsTrue S.tells → IsTrue K.tells → (world : World) → IsOpenable world → StandFor (contents_of D.bytes site.old.disks) world
         → (Rose (S.faults script.old) (S.faults script.new) → ⊥) → (Rose (K.faults out.old) (K.faults out.new) → ⊥)
         → ((name : DiskName) → Rose (faults_of D.ledger site.old.disks name) (faults_of D.ledger site.new.disks name) → ⊥)
         → (result ≡ (run (map string_bytes words.now) moment world (S.left script.old)).status) ⊎ (result ≡ Status.OutOfMemory) }
@@ -100,14 +88,18 @@ pub fn onbar<R: Threads + Sync, D: Disk + Send, S: Source, K: Sink>(
     ensures disk_fault { (name : DiskName) → result ≡ Status.DiskFault name
         → Rose (faults_of D.ledger site.old.disks name) (faults_of D.ledger site.new.disks name) }
 
-    // The catalogue's page and the log are read once; each append begins an era, and writes at most 32 records and a gate.
-    ensures cat_read { (D.ledger site.new.disks.cat).read ≤ (D.ledger site.old.disks.cat).read + 4096 }
-    ensures cat_written { (D.ledger site.new.disks.cat).written ≤ (D.ledger site.old.disks.cat).written }
+    // The catalogue's page and the log are read once. Formatting writes their headers and the log's gates; a script writes
+    // at most 32 records and a gate in each era that it begins.
+    ensures cat_read { (D.ledger site.new.disks.cat).read ≤ (D.ledger site.old.disks.cat).read + 4097 }
+    ensures cat_written { (D.ledger site.new.disks.cat).written ≤ (D.ledger site.old.disks.cat).written + 4098 }
+    ensures cat_unwritten { reads_script (command_of (map string_bytes words.now)) ≡ true → (D.ledger site.new.disks.cat).written ≤ (D.ledger site.old.disks.cat).written }
     ensures log_read { (D.ledger site.new.disks.log).read ≤ (D.ledger site.old.disks.log).read + 8458240 }
-    ensures log_written { IsTrue D.tells → IsTrue S.tells → (world : World) → IsFit world → StandFor (contents_of D.bytes site.old.disks) world
+    ensures log_formatted { reads_script (command_of (map string_bytes words.now)) ≡ false
+        → (D.ledger site.new.disks.log).written ≤ (D.ledger site.old.disks.log).written + 77826 }
+    ensures log_written { IsTrue D.tells → IsTrue S.tells → reads_script (command_of (map string_bytes words.now)) ≡ true
+        → (world : World) → IsOpenable world → StandFor (contents_of D.bytes site.old.disks) world
         → (D.ledger site.new.disks.log).written + 4097 * era.old.number ≤ (D.ledger site.old.disks.log).written + 4097 * era.new.number }
-    ensures others { (site.new.disks.spare ≡ site.old.disks.spare) × (site.new.disks.boot ≡ site.old.disks.boot)
-        × (site.new.disks.volumes ≡ site.old.disks.volumes) × (site.new.disks.chunks ≡ site.old.disks.chunks) }
+    ensures others { site.new.disks ≡ record site.old.disks { cat = site.new.disks.cat; log = site.new.disks.log } }
 
     ensures era { era.new.number ≤ era.old.number + 2 ^ 40 }
     ensures era_later { era.old.number < era.new.number }

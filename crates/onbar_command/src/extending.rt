@@ -1,21 +1,22 @@
 // A script of transactions extends the log of a formatted site.
-ghost use Rattle.std.specs.Prelude.{◌≡◌, ◌+◌, ◌*◌, ◌<◌, ◌≤◌, ◌^◌, ◌++◌, [], ℕ, List, length, IsTrue, IfOk, OnErr, IsErrOf, IfErr};
-ghost use Rattle.log_history.specs.Transactions.{InOrder};
+ghost use Rattle.std.specs.Prelude.{◌≡◌, ◌+◌, ◌*◌, ◌<◌, ◌≤◌, ◌^◌, ◌++◌, [], ℕ, List, length, IsTrue, ◌⊎◌, IfOk, OnOk, IsErrOf, IfErr};
+ghost use Rattle.log_history.specs.History.{History};
 ghost use Rattle.onbar_words.specs.Cutting.{TakesFront};
 ghost use Rattle.site_disk.specs.Causes.{Rose};
 ghost use Rattle.site_disk.specs.Ledger.{MayUse};
 ghost use Rattle.site_headers.specs.Heads.{IsHead};
 ghost use Rattle.site_headers.specs.Views.{head_of};
 ghost use Rattle.site_model.specs.declared.disk_name.DiskName.{DiskName};
+ghost use Rattle.site_model.specs.Commands.{CutsShort};
 ghost use Rattle.site_model.specs.Layouts.{HoldsLog};
+ghost use Rattle.site_model.specs.Openings.{CanOpen, LogRefuses};
 ghost use Rattle.site_model.specs.Runs.{first_place};
 ghost use Rattle.site_model.specs.Worlds.{Site};
-ghost use Rattle.onbar_command.specs.Extending.{head_status, log_status, report_of, ExtendsTo};
-ghost use Rattle.onbar_command.specs.Forms.{IsNoStop};
+ghost use Rattle.onbar_command.specs.Extending.{log_status, report_of, ExtendsTo, IsUncut};
+ghost use Rattle.onbar_command.specs.Disks.{IsKept};
 ghost use Rattle.onbar_command.specs.Scripts.{run_text};
 
 use crate::collecting::Collected;
-use crate::formatted::HeadFault;
 use crate::opening::{OpenFault, OpenLog, open_log};
 use crate::replay::LogState;
 use crate::running::run_script;
@@ -33,16 +34,6 @@ pub struct Extended {
     pub counts: Counts,
     pub end: u64,
     pub status: Status,
-}
-
-pub fn head_status(fault: HeadFault) -> Status
-    ensures { result ≡ head_status fault }
-{
-    match fault {
-        HeadFault::NotFormatted => Status::NotFormatted,
-        HeadFault::Failed => Status::DiskFault(DiskName::Cat),
-        HeadFault::OutOfMemory => Status::OutOfMemory,
-    }
 }
 
 fn log_status(fault: OpenFault) -> Status
@@ -88,7 +79,7 @@ fn begin_work(alloc: Global, opened: OpenLog) -> Work
 /// What a run comes to that stopped so.
 fn report(stop: Stop, work: &Work) -> Result<Extended, Status>
     ensures told { result ≡ report_of stop work.now }
-    ensures no_stop { IfOk result IsNoStop }
+    ensures no_stop { IfOk result IsUncut }
 {
     let end = work.slots.used() as u64;
     let status = match stop {
@@ -124,19 +115,25 @@ pub fn extend_log<D: Disk, S: Source>(
     requires number { era.old.number ≤ 2 ^ 63 + 8 }
     requires moment { moment ≤ 2 ^ 48 }
 
-    ensures extended { IsTrue D.tells → IsTrue S.tells → (site : Site) → site.head ≡ head_of head.now → InOrder site.history → HoldsLog site (D.bytes log.old)
+    // Any log but a refused one is extended; a log is refused for its bytes, and then nothing is written.
+    ensures opens { IsTrue D.tells → OnOk result ((history : History) × CanOpen history × HoldsLog (record { head = head_of head.now; history = history }) (D.bytes log.old)) }
+    ensures refused { IsTrue D.tells → IfErr result (λ status. CutsShort status ⊎ LogRefuses head.now.site (D.bytes log.old) status) }
+    ensures kept { IfErr result (λ status. CutsShort status
+        ⊎ IsKept (D.ledger log.old) (D.ledger log.new) (D.bytes log.old) (D.bytes log.new) (D.image log.old) (D.image log.new)) }
+
+    ensures extended { IsTrue D.tells → IsTrue S.tells → (site : Site) → site.head ≡ head_of head.now → CanOpen site.history → HoldsLog site (D.bytes log.old)
         → ((f : ℕ) (c : List ℕ) → era.old.number < f → D.image log.old f c → HoldsLog site c)
         → ExtendsTo site (run_text site.head.spaces moment (S.left source.old) (first_place site.history)) (S.left source.new)
         era.old.number era.new.number (D.bytes log.new) (D.image log.old) (D.image log.new) result }
 
-    ensures no_stop { IfOk result IsNoStop }
+    ensures no_stop { IfOk result IsUncut }
     ensures era { era.new.number ≤ era.old.number + 16777218 }
     ensures era_later { era.old.number ≤ era.new.number }
     ensures key { era.new.key ≡ era.old.key }
     ensures may { MayUse era.new (D.ledger log.new) }
     ensures later { (D.ledger log.old).faults ≤ (D.ledger log.new).faults }
     ensures read { (D.ledger log.new).read ≤ (D.ledger log.old).read + 8458240 }
-    ensures written { IsTrue D.tells → IsTrue S.tells → (site : Site) → site.head ≡ head_of head.now → InOrder site.history → HoldsLog site (D.bytes log.old)
+    ensures written { IsTrue D.tells → IsTrue S.tells → (site : Site) → site.head ≡ head_of head.now → CanOpen site.history → HoldsLog site (D.bytes log.old)
         → (D.ledger log.new).written + 4097 * era.old.number ≤ (D.ledger log.old).written + 4097 * era.new.number }
     ensures taken { IsTrue S.tells → TakesFront (S.left source.old) (S.left source.new) }
     ensures source_later { S.faults source.old ≤ S.faults source.new }

@@ -1,5 +1,5 @@
 // Formatting a site: its log, and then its catalogue, which is what makes the site a formatted one.
-ghost use Rattle.std.specs.Prelude.{◌≡◌, ◌⊎◌, ◌+◌, ◌<◌, ◌≤◌, ◌^◌, ℕ, List, length, IsTrue, OnOk, IfErr};
+ghost use Rattle.std.specs.Prelude.{◌≡◌, ◌⊎◌, ◌+◌, ◌<◌, ◌≤◌, ◌^◌, ℕ, List, IsTrue, OnOk, IfErr};
 ghost use Rattle.site_disk.specs.Causes.{Rose, HasCause};
 ghost use Rattle.site_disk.specs.Images.{OnlyAfter};
 ghost use Rattle.site_disk.specs.Ledger.{MayUse, Uses};
@@ -8,9 +8,9 @@ ghost use Rattle.site_headers.specs.Headers.{HasHeader, catalogue_tail};
 ghost use Rattle.site_headers.specs.Views.{head_of};
 ghost use Rattle.site_model.specs.declared.disk_name.DiskName.{DiskName};
 ghost use Rattle.site_model.specs.Layouts.{HasNoCatalogue, HoldsLog, Shows, StandFor};
-ghost use Rattle.site_model.specs.Worlds.{unformatted, formatted};
+ghost use Rattle.site_model.specs.Worlds.{unformatted, formatted, new_site};
 ghost use Rattle.onbar_command.specs.Disks.{contents_of, images_of};
-ghost use Rattle.onbar_command.specs.Formatting.{new_site, MayStandFormatted};
+ghost use Rattle.onbar_command.specs.Formatting.{MayStandFormatted};
 
 use crate::site::Site;
 use gated_slots::{Slots, header_close, header_open};
@@ -77,16 +77,15 @@ fn format_catalogue<D: Disk>(
 }
 
 impl<D: Disk> Site<D> {
-    /// Formats a site of one space: its log, and in the next era its catalogue.
+    /// Formats a site: its log, and in the next era its catalogue. Whatever stood there is no longer named.
     ///
     /// The catalogue's header is what makes it a formatted site: wherever the call stops, there is none, or the log is
     /// there whole.
     pub fn format(&mut self, era: &mut Era, head: &SiteHead) -> Result<(), SiteFault>
         requires head { IsHead (head_of head.now) }
-        requires one { length head.now.spaces.items ≡ 1 }
         requires cat_may { MayUse era.old (D.ledger self.old.disks.cat) }
         requires log_may { MayUse era.old (D.ledger self.old.disks.log) }
-        requires number { era.old.number ≤ 2 ^ 63 }
+        requires number { era.old.number < 2 ^ 63 + 2 ^ 62 }
 
         ensures stands { IsTrue D.tells → OnOk result (StandFor (contents_of D.bytes self.new.disks) (formatted (new_site (head_of head.now)))) }
         ensures durable { IsTrue D.tells → OnOk result ((f : ℕ) (name : DiskName) (bytes : List ℕ) → era.new.number < f

@@ -4,6 +4,7 @@
 mod appending;
 mod collecting;
 mod command;
+mod entering;
 mod extending;
 mod form;
 mod formatted;
@@ -11,6 +12,7 @@ mod formatting;
 mod opening;
 mod printing;
 mod replay;
+mod report;
 mod running;
 mod script;
 mod site;
@@ -20,6 +22,3 @@ mod transactions;
 pub use command::onbar;
 pub use formatting::SiteFault;
 pub use site::{Site, SiteDisks};
-
-#[cfg(test)]
-mod tests;

@@ -1,25 +1,32 @@
 // Opening the log: its header, its gates and its records.
-ghost use Rattle.std.specs.Prelude.{◌≡◌, ◌⊎◌, ◌+◌, ◌*◌, ◌/◌, ◌%◌, ◌<◌, ◌≤◌, ◌^◌, ◌++◌, length, IsTrue, IfOk, OnOk, OnErr, IfErr, IsErrOf};
-ghost use Rattle.std.specs.List.{AllByRecursion, flat_map};
+ghost use Rattle.std.specs.Prelude.{◌≡◌, ◌⊎◌, ◌+◌, ◌*◌, ◌/◌, ◌%◌, ◌<◌, ◌≤◌, ◌^◌, ◌↔◌, ℕ, length, reverse, None, Some, if◌then◌else◌, nat_lt, IsTrue, IfOk, OnOk, IfErr, IsErrOf};
 ghost use Rattle.log_history.specs.History.{History};
-ghost use Rattle.log_history.specs.Transactions.{InOrder};
-ghost use Rattle.log_record.specs.Layout.{IsRecord, spelling};
 ghost use Rattle.gated_slots.specs.Slots.{place_of};
 ghost use Rattle.site_disk.specs.Bytes.{extent, Same};
-ghost use Rattle.site_disk.specs.Causes.{Rose};
-ghost use Rattle.site_disk.specs.Images.{Leaves, Unchanged};
+ghost use Rattle.site_disk.specs.Causes.{HasCause, Rose};
+ghost use Rattle.site_disk.specs.Images.{Leaves, OnlyAfter, Unchanged};
 ghost use Rattle.site_disk.specs.Ledger.{MayUse, Uses};
-ghost use Rattle.site_model.specs.Worlds.{Site};
-ghost use Rattle.site_model.specs.Layouts.{HoldsLog, log_area};
+ghost use Rattle.site_headers.specs.Headers.{HasHeader, log_tail};
+ghost use Rattle.site_model.specs.Layouts.{log_area};
+ghost use Rattle.site_model.specs.Openings.{AllGoBack, IsBadPlace, LogRefuses};
+ghost use Rattle.onbar_command.specs.Extending.{log_status};
 ghost use Rattle.onbar_command.specs.Replays.{IsStateOf};
-ghost use Rattle.onbar_command.specs.Logs.{IsReady};
-ghost use Rattle.onbar_command.specs.Openings.{IsDeviceOrMemory};
+ghost use Rattle.onbar_command.specs.Openings.{open_fault_of, IsDeviceOrMemory, IsOpened, IsReadWhole, RecordsComeTo, RunComesTo};
 
 use crate::replay::{LogState, ReplayFault};
 use gated_slots::{Slots, header_read};
 use site_disk::{Disk, Era, Failed};
 use site_headers::is_log_header;
 use std::alloc::Global;
+
+/// Where the gates of the log begin.
+const GATES: u64 = 8_192;
+
+/// Where its slots begin.
+const SLOTS: u64 = 73_728;
+
+/// What stands for a slot where the disk ends within the gates.
+const NO_SLOT: u32 = u32::MAX;
 
 /// Why the log can't be opened.
 #[derive(Clone, Copy, Debug, PartialEq, Eq)]
@@ -44,8 +51,7 @@ impl From<Failed> for OpenFault {
 }
 
 fn open_fault(fault: ReplayFault) -> OpenFault
-    ensures memory { fault ≡ ReplayFault.OutOfMemory → result ≡ OpenFault.OutOfMemory }
-    ensures no_device { result ≡ OpenFault.Failed → ⊥ }
+    ensures { result ≡ open_fault_of fault }
 {
     match fault {
         ReplayFault::BadRecord { slot } => OpenFault::BadRecord { slot },
@@ -71,14 +77,12 @@ fn take_next_run<D: Disk>(
 
     ensures end { OnOk result (state.new.end ≡ state.old.end + length run.old / 128) }
     ensures bounded { state.new.time ≤ 2 ^ 48 }
-    ensures taken { IsTrue D.tells → (past entries : History) → IsStateOf past state.old → AllByRecursion IsRecord entries → length run.old ≡ 128 * length entries
-        → extent (place_of slots.now.area (length past)) (length run.old) (D.bytes disk.old) ≡ flat_map spelling entries → InOrder (past ++ entries)
-        → OnOk result (IsStateOf (past ++ entries) state.new) }
-    ensures complete { IsTrue D.tells → (past entries : History) → IsStateOf past state.old → AllByRecursion IsRecord entries → length run.old ≡ 128 * length entries
-        → extent (place_of slots.now.area (length past)) (length run.old) (D.bytes disk.old) ≡ flat_map spelling entries → InOrder (past ++ entries)
-        → IfErr result IsDeviceOrMemory }
+    ensures taken { IsTrue D.tells → place_of slots.now.area state.old.end + length run.old ≤ length (D.bytes disk.old)
+        → (past : History) → IsStateOf past state.old → AllGoBack (reverse past)
+        → RunComesTo past (extent (place_of slots.now.area state.old.end) (length run.old) (D.bytes disk.old)) state.new result }
 
     ensures bytes { OnOk result (D.bytes disk.new ≡ D.bytes disk.old) }
+    ensures kept { IfErr result (λ fault. IsDeviceOrMemory fault ⊎ (D.bytes disk.new ≡ D.bytes disk.old)) }
     ensures images { OnOk result (Unchanged (D.image disk.old) (D.image disk.new)) }
     ensures crash { Leaves era.now.number Same (D.image disk.old) (D.image disk.new) }
     ensures ledger { Uses era.now (length run.old) 0 (D.ledger disk.old) (D.ledger disk.new) }
@@ -95,41 +99,68 @@ fn take_next_run<D: Disk>(
     }
 }
 
-/// Reads the records of all slots used, each slot once, with a buffer of whole slots.
+/// Reads the records of the first slots used, as many as are held, each slot once, with a buffer of whole slots.
 fn read_records<D: Disk>(
     alloc: Global,
     disk: &mut D,
     era: &Era,
     slots: &Slots,
+    held: u64,
     buffer: &mut [u8; 4096],
 ) -> Result<LogState, OpenFault>
     requires era { MayUse era.now (D.ledger disk.old) }
-    requires size { slots.now.area.size ≡ 128 }
-    requires few { slots.now.area.capacity ≤ 65536 }
+    requires area { slots.now.area ≡ log_area }
+    requires held { held ≤ slots.now.used }
+    requires used { slots.now.used ≤ 65536 }
 
-    ensures end { IfOk result (λ state. state.end ≡ slots.now.used) }
-    ensures used { slots.now.used ≤ slots.now.area.capacity }
+    ensures end { IfOk result (λ state. state.end ≡ held) }
     ensures bounded { IfOk result (λ state. state.time ≤ 2 ^ 48) }
-    ensures state { IsTrue D.tells → (history : History) → length history ≡ slots.now.used → AllByRecursion IsRecord history
-        → extent slots.now.area.slots (128 * length history) (D.bytes disk.old) ≡ flat_map spelling history → InOrder history
-        → IfOk result (IsStateOf history) }
-    ensures complete { IsTrue D.tells → (history : History) → length history ≡ slots.now.used → AllByRecursion IsRecord history
-        → extent slots.now.area.slots (128 * length history) (D.bytes disk.old) ≡ flat_map spelling history → InOrder history
-        → IfErr result IsDeviceOrMemory }
+    ensures records { IsTrue D.tells → 73728 + 128 * held ≤ length (D.bytes disk.old) → RecordsComeTo (D.bytes disk.old) held result }
 
     ensures bytes { OnOk result (D.bytes disk.new ≡ D.bytes disk.old) }
+    ensures kept { IfErr result (λ fault. IsDeviceOrMemory fault ⊎ (D.bytes disk.new ≡ D.bytes disk.old)) }
     ensures images { OnOk result (Unchanged (D.image disk.old) (D.image disk.new)) }
     ensures crash { Leaves era.now.number Same (D.image disk.old) (D.image disk.new) }
-    ensures ledger { Uses era.now (128 * slots.now.used) 0 (D.ledger disk.old) (D.ledger disk.new) }
+    ensures ledger { Uses era.now (128 * held) 0 (D.ledger disk.old) (D.ledger disk.new) }
     ensures failed { IsErrOf result OpenFault.Failed → Rose (D.ledger disk.old).faults (D.ledger disk.new).faults }
 {
-    let used = slots.used() as u64;
     let mut state = LogState::new(alloc);
-    while state.end < used {
-        let count = (used - state.end).min(32) as usize;
+    while state.end < held {
+        let count = (held - state.end).min(32) as usize;
         take_next_run(disk, era, slots, &mut state, &mut buffer[..128 * count])?;
     }
     Ok(state)
+}
+
+/// Whether the disk begins with the header of the site's log. The buffer is room for a page.
+fn has_log_header<D: Disk>(
+    disk: &mut D,
+    era: &Era,
+    site: u64,
+    buffer: &mut [u8; 4096],
+) -> Result<bool, Failed>
+    requires { MayUse era.now (D.ledger disk.old) }
+    ensures header { IsTrue D.tells → IfOk result (λ has. IsTrue has ↔ HasHeader (log_tail site) (D.bytes disk.old)) }
+    ensures bytes { OnOk result (D.bytes disk.new ≡ D.bytes disk.old) }
+    ensures images { OnOk result (Unchanged (D.image disk.old) (D.image disk.new)) }
+    ensures crash { Leaves era.now.number Same (D.image disk.old) (D.image disk.new) }
+    ensures ledger { Uses era.now 4096 0 (D.ledger disk.old) (D.ledger disk.new) }
+    ensures cause { HasCause (D.ledger disk.old).faults (D.ledger disk.new).faults result }
+{
+    let found = header_read(disk, era, buffer)?;
+    Ok(found && is_log_header(buffer, site))
+}
+
+/// The first slot that can't be: one that the disk doesn't hold whole, or that of a Begin out of order.
+fn bad_slot(state: &LogState, used: u64) -> Option<u32>
+    requires { used ≤ 65536 }
+    ensures { result ≡ (if nat_lt state.now.end used then Some state.now.end else state.now.stray) }
+{
+    if state.end < used {
+        Some(state.end as u32)
+    } else {
+        state.stray
+    }
 }
 
 /// A log that is open: its slots, and what its records come to.
@@ -137,6 +168,42 @@ fn read_records<D: Disk>(
 pub struct OpenLog {
     pub slots: Slots,
     pub state: LogState,
+}
+
+/// Reads the slots of a log with a header whose disk has so many bytes, from its gates on.
+fn read_log<D: Disk>(
+    alloc: Global,
+    disk: &mut D,
+    era: &Era,
+    len: u64,
+    buffer: &mut [u8; 4096],
+) -> Result<OpenLog, OpenFault>
+    requires era { MayUse era.now (D.ledger disk.old) }
+    requires long { 73728 ≤ len }
+
+    ensures area { IfOk result (λ log. log.slots.area ≡ log_area) }
+    ensures end { IfOk result (λ log. (log.state.end ≡ log.slots.used) × (log.slots.used ≤ 65536)) }
+    ensures bounded { IfOk result (λ log. log.state.time ≤ 2 ^ 48) }
+    ensures read { IsTrue D.tells → len ≡ length (D.bytes disk.old) → IfOk result (IsReadWhole (D.bytes disk.old)) }
+    ensures bad { IsTrue D.tells → len ≡ length (D.bytes disk.old) → IfErr result (λ fault. IsDeviceOrMemory fault
+        ⊎ ((slot : ℕ) × IsBadPlace (D.bytes disk.old) slot × (fault ≡ OpenFault.BadRecord slot))) }
+
+    ensures bytes { OnOk result (D.bytes disk.new ≡ D.bytes disk.old) }
+    ensures kept { IfErr result (λ fault. IsDeviceOrMemory fault ⊎ (D.bytes disk.new ≡ D.bytes disk.old)) }
+    ensures only { IsTrue D.tells → OnOk result (OnlyAfter (D.ledger disk.new).last (D.bytes disk.old) (D.image disk.new)) }
+    ensures crash { Leaves era.now.number Same (D.image disk.old) (D.image disk.new) }
+    ensures ledger { Uses era.now (65536 + 128 * 65536) 0 (D.ledger disk.old) (D.ledger disk.new) }
+    ensures failed { IsErrOf result OpenFault.Failed → Rose (D.ledger disk.old).faults (D.ledger disk.new).faults }
+{
+    let mut slots = Slots::new(GATES, SLOTS, 128, 65_536);
+    slots.open(disk, era)?;
+    let used = slots.used() as u64;
+    let held = used.min((len - SLOTS) / 128);
+    let state = read_records(alloc, disk, era, &slots, held, buffer)?;
+    match bad_slot(&state, used) {
+        Some(slot) => Err(OpenFault::BadRecord { slot }),
+        None => Ok(OpenLog { slots, state }),
+    }
 }
 
 /// Opens the log of a site. The buffer is room for a page.
@@ -152,23 +219,21 @@ pub fn open_log<D: Disk>(
     ensures area { IfOk result (λ log. log.slots.area ≡ log_area) }
     ensures end { IfOk result (λ log. (log.state.end ≡ log.slots.used) × (log.slots.used ≤ 65536)) }
     ensures bounded { IfOk result (λ log. log.state.time ≤ 2 ^ 48) }
-    ensures opened { IsTrue D.tells → (model : Site) → model.head.site ≡ site → InOrder model.history → HoldsLog model (D.bytes disk.old)
-        → IfOk result (λ log. IsStateOf model.history log.state
-        × IsReady model log.slots (D.ledger disk.new).last (D.bytes disk.new) (D.image disk.new)) }
-    ensures complete { IsTrue D.tells → (model : Site) → model.head.site ≡ site → InOrder model.history → HoldsLog model (D.bytes disk.old)
-        → IfErr result IsDeviceOrMemory }
+    ensures opened { IsTrue D.tells → IfOk result (IsOpened site (D.ledger disk.new).last (D.bytes disk.new) (D.image disk.new)) }
+    ensures refused { IsTrue D.tells → IfErr result (λ fault. IsDeviceOrMemory fault ⊎ LogRefuses site (D.bytes disk.old) (log_status fault)) }
 
     ensures bytes { OnOk result (D.bytes disk.new ≡ D.bytes disk.old) }
+    ensures kept { IfErr result (λ fault. IsDeviceOrMemory fault ⊎ (D.bytes disk.new ≡ D.bytes disk.old)) }
     ensures crash { Leaves era.now.number Same (D.image disk.old) (D.image disk.new) }
     ensures ledger { Uses era.now (4096 + 65536 + 128 * 65536) 0 (D.ledger disk.old) (D.ledger disk.new) }
     ensures failed { IsErrOf result OpenFault.Failed → Rose (D.ledger disk.old).faults (D.ledger disk.new).faults }
 {
-    let found = header_read(disk, era, buffer)?;
-    if !found || !is_log_header(buffer, site) {
+    if !has_log_header(disk, era, site, buffer)? {
         return Err(OpenFault::LogLost);
     }
-    let mut slots = Slots::new(8_192, 73_728, 128, 65_536);
-    slots.open(disk, era)?;
-    let state = read_records(alloc, disk, era, &slots, buffer)?;
-    Ok(OpenLog { slots, state })
+    let len = disk.len()?;
+    if len < SLOTS {
+        return Err(OpenFault::BadRecord { slot: NO_SLOT });
+    }
+    read_log(alloc, disk, era, len, buffer)
 }

@@ -33,7 +33,7 @@ unless_ok : (b : Bool) (why : Why) (x : Unit {0}) → unless b why ≡ Ok x → 
 unless_ok true why x is = refl
 unless_ok false why x is = cc is
 
-number_within-Some : (low high : ℕ) (word : List ℕ) (n : ℕ) → number_within low high word ≡ Some n → (low ≤ n) × (n ≤ high)
+pub number_within-Some : (low high : ℕ) (word : List ℕ) (n : ℕ) → number_within low high word ≡ Some n → (low ≤ n) × (n ≤ high)
 number_within-Some low high word n is =
     option_and_then_some (λ n. cond (nat_le low n && nat_le n high) (Some n) None) (number word) n is
     (λ x was within.

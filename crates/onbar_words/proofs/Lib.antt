@@ -5,3 +5,4 @@ pub mod TokenLemmas
 pub mod LineLemmas
 pub mod FitLemmas
 pub mod NumberLemmas
+pub mod InitLemmas

@@ -2,11 +2,13 @@
 //!
 //! `Lines` cuts a script into its lines however its bytes come in pieces, and answers a limit exactly where the next
 //! line passes it. `read_txn_line` and `read_words` accept exactly the grammar, and answer the first fault in its order.
-//! Only `Lines` takes memory: one buffer, at the first call.
+//! `Lines` takes memory for one buffer, at the first call, and `read_words` for the spaces that `-init` names.
 #![tactic(auto)]
 
 mod cutting;
+mod init_words;
 mod laws;
+mod show_words;
 mod spaces;
 #[cfg(test)]
 mod tests;

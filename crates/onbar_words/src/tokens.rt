@@ -1,5 +1,5 @@
 //! The tokens of a line: where one ends, and what it says.
-ghost use Rattle.std.specs.Prelude.{◌≡◌, [], ◌∷◌, MatchResult};
+ghost use Rattle.std.specs.Prelude.{◌≡◌, [], ◌∷◌, false, None, Some, IsTrue, MatchResult};
 ghost use Rattle.std.specs.List.{list_all};
 ghost use Rattle.onbar_grammar.specs.declared.Why.TheVariants.{Words};
 ghost use Rattle.onbar_grammar.specs.Numbers.{digits_value, number, number_within, is_letter, is_name_character, is_name, hex_bytes};
@@ -7,6 +7,7 @@ ghost use Rattle.onbar_grammar.specs.Script.{tokens_of};
 ghost use Rattle.onbar_words.specs.Number.{within_u32};
 ghost use Rattle.onbar_words.specs.Tokens.{HasTwo};
 
+use bsa_descriptor::Text;
 use log_record::Text64;
 use memchr::memchr;
 use onbar_grammar::Why;
@@ -56,12 +57,23 @@ pub(crate) fn number_in(word: &[u8]) -> Option<u32>
     }
 }
 
+/// The number from `low` to `high` that a word spells.
+pub(crate) fn number_within(low: u32, high: u32, word: &[u8]) -> Option<u32>
+    ensures { result ≡ number_within low high word.now }
+{
+    let number = number_in(word)?;
+    if (low..=high).contains(&number) {
+        Some(number)
+    } else {
+        None
+    }
+}
+
 /// The number of a transaction, which isn't 0.
 pub(crate) fn txn_in(word: &[u8]) -> Option<u32>
     ensures { result ≡ number_within 1 4294967295 word.now }
 {
-    let txn = number_in(word)?;
-    if txn == 0 { None } else { Some(txn) }
+    number_within(1, u32::MAX, word)
 }
 
 fn is_letter(c: u8) -> bool
@@ -90,6 +102,18 @@ pub(crate) fn is_name(word: &[u8]) -> bool
         [first, others @ ..] if is_letter(*first) => are_name_characters(others)
             && others.len() <= 17,
         _ => false,
+    }
+}
+
+/// The name that a word is.
+pub(crate) fn name_in(word: &[u8]) -> Option<Text<19>>
+    ensures name { IsTrue (is_name word.now) → result ≡ Some word.now }
+    ensures none { is_name word.now ≡ false → result ≡ None }
+{
+    if is_name(word) {
+        Text::from_bytes(word)
+    } else {
+        None
     }
 }
 

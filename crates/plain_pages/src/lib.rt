@@ -1,6 +1,6 @@
 //! The pages of a history, computed the plain and slow way.
 //!
-//! The contract of `page_of_log` is the definition itself, so the faster ways are compared with it. It takes no memory.
+//! The contract of `page_of_log` is the definition itself, so that any faster way can be compared with it. It takes no memory.
 #![tactic(auto)]
 
 mod live;

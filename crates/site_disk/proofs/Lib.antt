@@ -3,3 +3,4 @@ mod Moving
 mod RecordedLemmas
 mod Replays
 mod Tearing
+mod Zeroing

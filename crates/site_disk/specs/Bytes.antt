@@ -1,5 +1,5 @@
 -- Bytes by their places.
-use Rattle.std.specs.Prelude.{◌≡◌, ◌⊎◌, ℕ, ◌+◌, ◌≤◌, max, List, ◌++◌, length, take, drop}
+use Rattle.std.specs.Prelude.{◌≡◌, ◌⊎◌, ℕ, ◌+◌, ◌-◌, ◌≤◌, max, List, ◌++◌, length, take, drop, replicate}
 
 -- what stands in a range: n bytes from a place on, fewer where the bytes end
 abbrev pub extent : ℕ → ℕ → List ℕ → List ℕ
@@ -8,6 +8,10 @@ extent at n bytes = take n (drop at bytes)
 -- the bytes after a write at a place at most their length
 abbrev pub written : ℕ → List ℕ → List ℕ → List ℕ
 written at piece bytes = take at bytes ++ piece ++ drop (at + length piece) bytes
+
+-- zero bytes up to a place, where the bytes end before it
+abbrev pub filled : ℕ → List ℕ → List ℕ
+filled place bytes = bytes ++ replicate (place - length bytes) 0
 
 -- a write that failed: nothing was written, or a front of the piece
 abbrev pub MayWrite : ℕ → List ℕ → List ℕ → List ℕ → Type 0

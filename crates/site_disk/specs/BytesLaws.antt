@@ -1,9 +1,10 @@
 -- Laws of extents, writes and torn writes, for the layers above.
-use Rattle.std.specs.Prelude.{◌≡◌, ℕ, ◌+◌, ◌-◌, ◌≤◌, max, List, [], ◌++◌, length, take, drop, refl}
+use Rattle.std.specs.Prelude.{◌≡◌, ℕ, zero, suc, ◌+◌, ◌-◌, ◌<◌, ◌≤◌, max, List, [], ◌∷◌, ◌++◌, length, take, drop, replicate, refl}
 use mathlib.Core.Logic.{inl, inr}
-use Rattle.std.proofs.Common.{arith, ap, sym, ◌∙◌, ⊎_elim, append_assoc, length-append, length-drop, add-zero}
-use Rattle.std.proofs.lemmas.List.{append-nil, take-append-drop, drop-take, take-take, drop_at, drop-drop, take_at, length-take-le}
-use Rattle.site_disk.specs.Bytes.{extent, written, Torn}
+use Rattle.std.proofs.Common.{arith, ap, sym, ◌∙◌, ⊎_elim, get_or, append_assoc, length-append, length-drop, add-zero}
+use Rattle.std.proofs.lemmas.List.{append-nil, take-append-drop, drop-take, take-take, drop_at, drop-drop, take_at, length-take-le, drop_more, length-replicate}
+use Rattle.std.proofs.Math.Seq.{take-add}
+use Rattle.site_disk.specs.Bytes.{extent, written, filled, Torn}
 
 -- a range is decided by the bytes up to its end
 pub extent-front : (from len : ℕ) (xs : List ℕ) → extent from len xs ≡ drop from (take (from + len) xs)
@@ -91,3 +92,63 @@ extent-extent at n from len bytes le =
 
 pub length-extent : (at n : ℕ) (bytes : List ℕ) → at + n ≤ length bytes → length (extent at n bytes) ≡ n
 length-extent at n bytes le = length-take-le n (drop at bytes) (omega (arith, length-drop at bytes))
+
+-- a range and the one behind it
+pub extent-add : (at m n : ℕ) (xs : List ℕ) → extent at (m + n) xs ≡ extent at m xs ++ extent (at + m) n xs
+extent-add at m n xs = take-add m n (drop at xs) ∙ ap (λ (l : List ℕ). take m (drop at xs) ++ take n l) (drop-drop m at xs)
+
+pub extent-one : (at : ℕ) (xs : List ℕ) → at < length xs → extent at 1 xs ≡ get_or xs at 0 ∷ []
+extent-one at xs lt = ap (λ (l : List ℕ). take 1 l) (drop_more xs at 0 lt)
+
+-- a shorter range of the same place
+pub extent-fewer : (at m n : ℕ) (xs ys : List ℕ) → m ≤ n → extent at n xs ≡ extent at n ys → extent at m xs ≡ extent at m ys
+extent-fewer at m n xs ys le same =
+    sym (take-take m n (drop at xs) le) ∙ ap (λ (l : List ℕ). take m l) same ∙ take-take m n (drop at ys) le
+
+-- a range about one byte
+pub extent-about : (at i r : ℕ) (xs : List ℕ) → at + i < length xs
+    → extent at (i + (1 + r)) xs ≡ extent at i xs ++ get_or xs (at + i) 0 ∷ extent (at + i + 1) r xs
+extent-about at i r xs lt =
+    extent-add at i (1 + r) xs
+    ∙ ap (λ (l : List ℕ). extent at i xs ++ l) (extent-add (at + i) 1 r xs ∙ ap (λ (l : List ℕ). l ++ extent (at + i + 1) r xs) (extent-one (at + i) xs lt))
+
+-- bytes that reach a place aren't filled up to it
+pub filled_there : (place : ℕ) (bytes : List ℕ) → place ≤ length bytes → filled place bytes ≡ bytes
+filled_there place bytes le =
+    let none : place - length bytes ≡ 0 = omega (arith, le) in ap (λ (k : ℕ). bytes ++ replicate k 0) none ∙ append-nil bytes
+
+pub length-filled : (place : ℕ) (bytes : List ℕ) → length (filled place bytes) ≡ max place (length bytes)
+length-filled place bytes =
+    let zeros : List ℕ = replicate (place - length bytes) 0 in
+    omega (arith, length-append bytes zeros, length-replicate {A = ℕ} (place - length bytes) 0)
+
+-- one write behind another
+pub written-written : (at : ℕ) (front back bytes : List ℕ) → at ≤ length bytes
+    → written (at + length front) back (written at front bytes) ≡ written at (front ++ back) bytes
+written-written at front back bytes le =
+    let start = at + length front in
+    let rest = drop start bytes in
+    let long : length (take at bytes ++ front) ≡ start = omega (arith, length-append (take at bytes) front, length-take-le at bytes le) in
+    ap (λ (l : List ℕ). l ++ back ++ drop (start + length back) (written at front bytes)) (take_at (take at bytes ++ front) rest start long)
+    ∙ ap (λ (l : List ℕ). take at bytes ++ front ++ back ++ l) (drop-written at front bytes le (length back))
+    ∙ ap (λ (l : List ℕ). l ++ drop (start + length back) bytes) (append_assoc (take at bytes) front back)
+    ∙ ap (λ (n : ℕ). take at bytes ++ (front ++ back) ++ drop n bytes) (omega (arith, length-append front back))
+
+-- what stands at a place, written over it, changes nothing
+pub written-same : (at : ℕ) (piece bytes : List ℕ) → extent at (length piece) bytes ≡ piece → written at piece bytes ≡ bytes
+written-same at piece bytes stands =
+    let n = length piece in
+    let rest : piece ++ drop (at + n) bytes ≡ drop at bytes =
+    ap (λ (l : List ℕ). l ++ drop (at + n) bytes) (sym stands)
+    ∙ ap (λ (l : List ℕ). extent at n bytes ++ l) (sym (drop-drop n at bytes))
+    ∙ take-append-drop n (drop at bytes) in
+    append_assoc (take at bytes) piece (drop (at + n) bytes) ∙ ap (λ (l : List ℕ). take at bytes ++ l) rest ∙ take-append-drop at bytes
+
+-- what a read gives that finds so many bytes
+pub read_range : (at n found : ℕ) (bytes read : List ℕ) → found ≡ length (extent at n bytes) → read ≡ extent at found bytes → read ≡ extent at n bytes
+read_range at n found bytes read count is = is ∙ ap (λ (k : ℕ). extent at k bytes) count ∙ take-length-take n (drop at bytes)
+  where
+    take-length-take : (n : ℕ) (xs : List ℕ) → take (length (take n xs)) xs ≡ take n xs
+    take-length-take zero xs = refl
+    take-length-take (suc n) [] = refl
+    take-length-take (suc n) (x ∷ xs) = ap (λ (l : List ℕ). x ∷ l) (take-length-take n xs)

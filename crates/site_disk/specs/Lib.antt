@@ -1,8 +1,11 @@
 pub mod Bytes
 pub mod BytesLaws
+pub mod Gates
+pub mod GatesLaws
 pub mod Images
 pub mod ImagesLaws
 pub mod Ledger
+pub mod CallsLaws
 pub mod Causes
 pub mod Streams
 pub mod Plans

@@ -9,6 +9,8 @@
 mod disk;
 mod era;
 mod faults;
+mod filling;
+mod gates;
 mod memory;
 mod streams;
 mod syncing;
@@ -16,6 +18,8 @@ mod syncing;
 pub use disk::Disk;
 pub use era::Era;
 pub use faults::{Failed, OutOfMemory};
+pub use filling::{reach, write_zeros};
+pub use gates::close_gate;
 pub use memory::{Choice, MemDisk, MemSink, MemSource};
 pub use streams::{Sink, Source};
 pub use syncing::write_and_sync;

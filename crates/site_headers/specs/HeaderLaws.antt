@@ -9,7 +9,7 @@ use Rattle.onbar_grammar.specs.Script.{Space}
 use Rattle.site_disk.specs.Bytes.{extent}
 use Rattle.site_disk.specs.BytesLaws.{extent-extent}
 use Rattle.site_headers.specs.Heads.{Head, IsHead}
-use Rattle.site_headers.specs.Headers.{header_tail, space_bytes, catalogue_own, no_own, catalogue_tail, log_tail, HasHeader}
+use Rattle.site_headers.specs.Headers.{header_tail, space_bytes, catalogue_own, no_own, volume_own, catalogue_tail, log_tail, volume_tail, HasHeader}
 use Rattle.site_headers.specs.SpaceLaws.{length-spaces, same_number16, same_number32, same_number64, same_spaces}
 
 pub length-header_tail : (kind number site : ℕ) (own : List ℕ) → length own ≡ 4080 → length (header_tail kind number site own) ≡ 4095
@@ -22,6 +22,13 @@ length-no_own = length-replicate {A = ℕ} 4080 0
 
 pub length-log_tail : (site : ℕ) → length (log_tail site) ≡ 4095
 length-log_tail site = length-header_tail 4 0 site no_own length-no_own
+
+length-volume_own : (blocks : ℕ) → length (volume_own blocks) ≡ 4080
+unfolding volume_own
+length-volume_own blocks = omega (arith, length-append (to_be_bytes w32 blocks) (replicate {A = ℕ} 4076 0), length-replicate {A = ℕ} 4076 0)
+
+pub length-volume_tail : (number site blocks : ℕ) → length (volume_tail number site blocks) ≡ 4095
+length-volume_tail number site blocks = length-header_tail 5 number site (volume_own blocks) (length-volume_own blocks)
 
 length-catalogue_own : (head : Head) → IsHead head → length (catalogue_own head) ≡ 4080
 unfolding catalogue_own

@@ -1,5 +1,5 @@
 -- The header page with which every disk of a site begins. All numbers are big-endian; bytes not named are 0.
-use Rattle.std.specs.Prelude.{◌≡◌, ℕ, ◌-◌, ◌*◌, ◌<◌, List, [], ◌∷◌, ◌++◌, length, replicate, codes}
+use Rattle.std.specs.Prelude.{◌≡◌, ℕ, ◌-◌, ◌*◌, ◌<◌, ◌≤◌, List, [], ◌∷◌, ◌++◌, length, replicate, codes}
 use Rattle.std.specs.List.{flat_map}
 use Rattle.std.specs.Int.{w16, w32, w64, to_be_bytes}
 use Rattle.onbar_grammar.specs.Script.{Space}
@@ -32,6 +32,19 @@ catalogue_tail head = header_tail 1 0 head.site (catalogue_own head)
 -- the log is kind 4
 abbrev pub log_tail : ℕ → List ℕ
 log_tail site = header_tail 4 0 site no_own
+
+-- a volume's own bytes: 16 its blocks
+unfoldable pub volume_own : ℕ → List ℕ
+volume_own blocks = to_be_bytes w32 blocks ++ replicate 4076 0
+
+-- a volume is kind 5, with its number
+abbrev pub volume_tail : ℕ → ℕ → ℕ → List ℕ
+volume_tail number site blocks = header_tail 5 number site (volume_own blocks)
+
+-- a volume has 1 to 1,048,576 blocks
+pub record IsVolumeSize (blocks : ℕ) : Type 0 where
+  pub some : 1 ≤ blocks
+  pub few : blocks ≤ 1048576
 
 -- a header is valid where its gate, byte 0, is open, which is any byte but 0, and the other bytes are these
 pub record HasHeader (tail file : List ℕ) : Type 0 where

@@ -1,5 +1,5 @@
 -- Where the parts of a header stand.
-use Rattle.std.specs.Prelude.{◌≡◌, ℕ, ◌+◌, ◌*◌, ◌^◌, ◌<◌, ◌≤◌, List, [], ◌∷◌, ◌++◌, length, take, replicate, codes, IsTrue}
+use Rattle.std.specs.Prelude.{◌≡◌, ℕ, ◌+◌, ◌*◌, ◌^◌, ◌<◌, ◌≤◌, List, [], ◌∷◌, ◌++◌, length, take, replicate, codes, drop, All, IsTrue}
 use Rattle.std.specs.List.{AllByRecursion, flat_map}
 use Rattle.std.specs.Int.{w16, w32, w64, to_be_bytes}
 use Rattle.bsa_descriptor.specs.Text.{padded}
@@ -42,6 +42,13 @@ pub record HasSizes (page : List ℕ) (sizes : Sizes) : Type 0 where
   pub zeros : extent 18 6 page ≡ replicate 6 0
   pub blocks_stand : HasNumber32 24 page sizes.blocks
   pub more_zeros : extent 28 4 page ≡ replicate 4 0
+
+-- bytes 16 on of a volume's header: its blocks, within the limits, and zeros
+pub record HasVolumeSize (page : List ℕ) (blocks : ℕ) : Type 0 where
+  pub some : 1 ≤ blocks
+  pub few : blocks ≤ 1048576
+  pub blocks_stand : HasNumber32 16 page blocks
+  pub zeros : All (λ byte. byte ≡ 0) (drop 20 page)
 
 -- a name stands at this place, with zeros behind it up to 20 bytes
 pub record HasName (at : ℕ) (bytes name : List ℕ) : Type 0 where

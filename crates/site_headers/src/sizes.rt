@@ -1,10 +1,10 @@
 //! The counts in the catalogue's header.
-ghost use Rattle.std.specs.Prelude.{◌≡◌, ◌≤◌, ◌++◌, length, take, replicate, Some, IfSome};
+ghost use Rattle.std.specs.Prelude.{◌≡◌, ◌≤◌, ◌++◌, ℕ, length, take, replicate, Some, IfSome};
 ghost use Rattle.std.specs.Int.{w16, w32, to_be_bytes};
 ghost use Rattle.site_headers.specs.declared.sizes.Sizes.{Sizes};
-ghost use Rattle.site_headers.specs.Parts.{HasSizes};
+ghost use Rattle.site_headers.specs.Parts.{HasSizes, HasVolumeSize};
 
-use crate::fields::{has_bytes, u16_at, u32_at, write_bytes, write_zeros};
+use crate::fields::{has_bytes, is_zero_from, u16_at, u32_at, write_bytes, write_zeros};
 
 /// The number of spaces, and the blocks of a volume.
 #[derive(Clone, Copy)]
@@ -35,6 +35,20 @@ pub(crate) fn sizes_of(page: &[u8]) -> Option<Sizes>
     let has_zeros = has_bytes(page, 18, &[0; 6]) && has_bytes(page, 28, &[0; 4]);
     if has_zeros && matches!(spaces, 1..=16) && matches!(blocks, 1..=1_048_576) {
         Some(Sizes { spaces, blocks })
+    } else {
+        None
+    }
+}
+
+/// The blocks of a volume that bytes 16 on spell, or `None` where they spell none within the limits.
+pub(crate) fn volume_size_of(page: &[u8]) -> Option<u32>
+    requires { 20 ≤ length page.now }
+    ensures found { IfSome result (HasVolumeSize page.now) }
+    ensures only { (blocks : ℕ) → HasVolumeSize page.now blocks → result ≡ Some blocks }
+{
+    let blocks = u32_at(page, 16);
+    if is_zero_from(page, 20) && matches!(blocks, 1..=1_048_576) {
+        Some(blocks)
     } else {
         None
     }

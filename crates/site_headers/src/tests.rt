@@ -22,6 +22,15 @@ fn log_by_hand() -> [u8; 4096] {
     page
 }
 
+/// The header of volume 258 of that site, with 1,048,576 blocks.
+fn volume_by_hand() -> [u8; 4096] {
+    let mut page = [0; 4096];
+    page[..20].copy_from_slice(
+        b"\x01OBS\x05\x01\x01\x02\x01\x02\x03\x04\x05\x06\x07\x08\0\x10\0\0",
+    );
+    page
+}
+
 #[test]
 fn a_catalogue_header_is_read_and_written_again(rt: HostRuntime) -> Result<(), Fail> {
     let by_hand = catalogue_by_hand();
@@ -124,5 +133,30 @@ fn a_log_header_keeps_each_rule(rt: HostRuntime) {
         let mut page = log_by_hand();
         page[at] = byte;
         assert_eq!(rt; is_log_header(&page, site), is_header, "{rule}");
+    }
+}
+
+#[test]
+fn a_volume_header_keeps_each_rule(rt: HostRuntime) {
+    let site = 0x0102_0304_0506_0708;
+    let mut page = [0xff; 4096];
+    write_volume_header(258, site, 1_048_576, &mut page);
+    assert_eq!(rt; page.as_slice(), volume_by_hand().as_slice());
+    let table = [
+        (0, 7, Some(1_048_576), "any gate but 0 is open"),
+        (0, 0, None, "the gate is closed"),
+        (4, 6, None, "the chunk's kind"),
+        (7, 3, None, "another number"),
+        (15, 9, None, "another site"),
+        (17, 0, None, "no block"),
+        (18, 1, None, "1,048,832 blocks"),
+        (20, 1, None, "byte 20 is not named"),
+        (4095, 1, None, "the last byte"),
+    ];
+    for (at, byte, blocks, rule) in table {
+        assert!(rt; at < 4096);
+        let mut page = volume_by_hand();
+        page[at] = byte;
+        assert_eq!(rt; read_volume_header(&page, 258, site), blocks, "{rule}");
     }
 }

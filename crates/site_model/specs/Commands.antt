@@ -1,12 +1,12 @@
 -- What the clauses of a command say: where a stop may leave it, what it did at its end, what it read and printed.
-use Rattle.std.specs.Prelude.{◌≡◌, ◌⊎◌, ℕ, ◌+◌, ◌≤◌, List, [], ◌∷◌, ◌++◌, Some, None}
-use Rattle.onbar_grammar.specs.Words.{refused_word}
+use Rattle.std.specs.Prelude.{◌≡◌, ◌⊎◌, ℕ, ◌+◌, ◌≤◌, List, [], ◌∷◌, ◌++◌, true, false}
+use Rattle.onbar_grammar.specs.Words.{command_of}
 use Rattle.site_model.specs.declared.disk_name.DiskName.{DiskName}
 use Rattle.site_model.specs.declared.status.Status.{Status}
 use Rattle.site_model.specs.declared.status.Status.TheVariants.{Ok as Done, OutOfMemory, ReadFault, WriteFault, DiskFault}
 use Rattle.site_model.specs.Worlds.{World, IsFit}
 use Rattle.site_model.specs.Layouts.{Shows, StandFor}
-use Rattle.site_model.specs.Runs.{Run}
+use Rattle.site_model.specs.Runs.{Run, reads_script}
 use Rattle.site_model.specs.Steps.{ImagesOf, Frame, StandsAmong}
 
 -- a world is one of a list
@@ -58,8 +58,8 @@ pub record Printed (run : Run) (taken_before taken_after : List ℕ) (era : ℕ)
   pub text : taken_after ≡ taken_before ++ printed
   pub after_work : (printed ≡ []) ⊎ (IsFront printed run.text × AtItsEnd run era frame new)
 
--- what `-T` takes of its script: a front of it, all of it at Ok; a command whose words are refused takes nothing
+-- what `-T` takes of its script: a front of it, all of it at Ok; other forms take nothing
 pub record ReadsOf (words : List (List ℕ)) (result : Status) (before after : List ℕ) : Type 0 where
   pub front : (taken : List ℕ) × (before ≡ taken ++ after)
-  pub nothing : (n : ℕ) → refused_word words ≡ Some n → after ≡ before
-  pub to_end : refused_word words ≡ None → result ≡ Done → after ≡ []
+  pub nothing : reads_script (command_of words) ≡ false → after ≡ before
+  pub to_end : reads_script (command_of words) ≡ true → result ≡ Done → after ≡ []

@@ -39,12 +39,3 @@ Shows (Chunk n) world file = Unit {0}
 -- contents of the disks stand for a world
 abbrev pub StandFor : (DiskName → List ℕ) → World → Type 0
 StandFor contents world = (name : DiskName) → Shows name world (contents name)
-
--- the disks that a site has: 17 volumes and 16 chunks
-abbrev pub IsDisk : DiskName → Type 0
-IsDisk (Volume n) = n < 17
-IsDisk (Chunk n) = n < 16
-IsDisk Cat = Unit {0}
-IsDisk Spare = Unit {0}
-IsDisk Boot = Unit {0}
-IsDisk Log = Unit {0}

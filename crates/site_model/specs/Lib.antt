@@ -3,9 +3,12 @@ pub mod OrderLaws
 pub mod Layouts
 pub mod Texts
 pub mod Runs
+pub mod Openings
+pub mod OpeningLaws
 pub mod RunsLaws
 pub mod Steps
 pub mod Commands
 pub mod Stops
+pub mod OpenRunsLaws
 pub mod Spelled
 pub mod LogLaws

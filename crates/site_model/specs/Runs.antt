@@ -1,16 +1,18 @@
 -- What a command makes of a world: the worlds that it passes, the last one, the status and the text.
 use Rattle.std.specs.Prelude.{ℕ, ◌+◌, max, List, [], ◌∷◌, ◌++◌, length, map, Bool, true, false, ◌||◌, ◌==◌, nat_lt, if◌then◌else◌, Option, None, Some, Result, Ok, Err}
+use Rattle.std.specs.List.{flat_map}
 use Rattle.log_history.specs.History.{Entry, History, commit, reset}
 use Rattle.log_history.specs.Transactions.{Table, table_of, after, refusal, last_time, Refusal, already_open, not_open, too_many_open}
 use Rattle.onbar_grammar.specs.declared.Why.{Why}
 use Rattle.onbar_grammar.specs.declared.Why.TheVariants.{AlreadyOpen, NotOpen, TooManyOpen}
 use Rattle.onbar_grammar.specs.Script.{Raw, spelled, raw_lines, line_fault, Line, begin_line, write_line, commit_line, abort_line, Space, entry_of_line, line_of}
-use Rattle.onbar_grammar.specs.Words.{refused_word}
+use Rattle.onbar_grammar.specs.Words.{Command, CommandForm, init_form, transactions_form, show_form, command_of, form_at}
 use Rattle.site_model.specs.declared.status.Status.{Status}
-use Rattle.site_model.specs.declared.status.Status.TheVariants.{Ok as Done, Usage, ScriptFault, NotFormatted, LogFull}
+use Rattle.site_model.specs.declared.status.Status.TheVariants.{Ok as Done, Usage, ScriptFault, NotFormatted, AlreadyFormatted, LogFull}
 use Rattle.site_model.specs.declared.status.LogFull.TheVariants.{Positions}
-use Rattle.site_model.specs.Worlds.{Site, World, unformatted, formatted, with_history}
-use Rattle.site_model.specs.Texts.{extension_text, status_text}
+use Rattle.site_headers.specs.Heads.{Head}
+use Rattle.site_model.specs.Worlds.{Site, World, unformatted, formatted, new_site, with_history}
+use Rattle.site_model.specs.Texts.{space_text, extension_text, status_text}
 
 -- The log takes 65,536 records.
 abbrev pub log_capacity : ℕ
@@ -147,6 +149,16 @@ pub record Run : Type 0 where
   pub status : Status
   pub text : List ℕ
 
+abbrev pub is_transactions : CommandForm → Bool
+is_transactions (init_form blocks spaces) = false
+is_transactions transactions_form = true
+is_transactions (show_form space page) = false
+
+abbrev pub is_shown : CommandForm → Bool
+is_shown (init_form blocks spaces) = false
+is_shown transactions_form = false
+is_shown (show_form space page) = true
+
 -- a refusal before any work
 abbrev pub refused : World → Status → Run
 refused world status = record { passed = []; last = world; status = status; text = status_text status }
@@ -163,11 +175,45 @@ run_of site ending = record {
 abbrev pub transactions : ℕ → Site → List ℕ → Run
 transactions moment site script = run_of site (run_lines site.head.spaces moment (raw_lines script) (first_place site.history))
 
-abbrev pub run_form : ℕ → World → List ℕ → Option ℕ → Run
-run_form moment world script (Some n) = refused world (Usage n)
-run_form moment unformatted script None = refused unformatted NotFormatted
-run_form moment (formatted site) script None = transactions moment site script
+-- what `-init` fixes of a site: its id is the moment
+abbrev pub head_at : ℕ → ℕ → List Space → Head
+head_at moment blocks spaces = record { site = moment; blocks = blocks; spaces = spaces }
+
+-- `-init` over a site that isn't formatted
+abbrev pub formatting : ℕ → ℕ → List Space → Run
+formatting moment blocks spaces =
+    let made = formatted (new_site (head_at moment blocks spaces)) in record {
+      passed = made ∷ [];
+      last = made;
+      status = Done;
+      text = flat_map space_text spaces ++ status_text Done;
+    }
+
+-- What a form makes of a world; its own word stands at a place. `-D` isn't built yet, and is refused there.
+abbrev pub run_form : ℕ → World → List ℕ → ℕ → CommandForm → Run
+run_form moment unformatted script at (init_form blocks spaces) = formatting moment blocks spaces
+run_form moment (formatted site) script at (init_form blocks spaces) = refused (formatted site) AlreadyFormatted
+run_form moment unformatted script at transactions_form = refused unformatted NotFormatted
+run_form moment (formatted site) script at transactions_form = transactions moment site script
+run_form moment world script at (show_form space page) = refused world (Usage at)
+
+abbrev pub run_command : ℕ → World → List ℕ → ℕ → Result Command ℕ → Run
+run_command moment world script at (Err n) = refused world (Usage n)
+run_command moment world script at (Ok command) = run_form moment world script at command.form
 
 -- what the words make of a world, at a moment and with a script
 abbrev pub run : List (List ℕ) → ℕ → World → List ℕ → Run
-run words moment world script = run_form moment world script (refused_word words)
+run words moment world script = run_command moment world script (form_at words) (command_of words)
+
+-- the word at which a command is refused before it uses a disk: the first that can't stand, or that of a form that isn't built
+abbrev pub usage_of : ℕ → Result Command ℕ → Option ℕ
+usage_of at (Err n) = Some n
+usage_of at (Ok command) = if is_shown command.form then Some at else None
+
+abbrev pub usage_word : List (List ℕ) → Option ℕ
+usage_word words = usage_of (form_at words) (command_of words)
+
+-- whether a form reads its script
+abbrev pub reads_script : Result Command ℕ → Bool
+reads_script (Err n) = false
+reads_script (Ok command) = is_transactions command.form

@@ -2,6 +2,7 @@
 use Rattle.std.specs.Prelude.{ℕ, List, [], ◌∷◌, ◌++◌, length, drop, count_by, Bool, true, false, codes, if◌then◌else◌, nat_lt}
 use Rattle.std.specs.Fmt.{decimal}
 use Rattle.log_history.specs.History.{Entry, History, commit}
+use Rattle.onbar_grammar.specs.Script.{Space}
 use Rattle.onbar_grammar.specs.declared.Why.{Why}
 use Rattle.onbar_grammar.specs.declared.Why.TheVariants.{Words, NoSpace, NoPage, Range, AlreadyOpen, NotOpen, TooManyOpen, TooLong, ScriptTooLong, OutOfMemory as NoMemory}
 use Rattle.site_model.specs.declared.disk_name.DiskName.{DiskName}
@@ -21,6 +22,10 @@ is_commit_entry entry = false
 -- of records that stand: how many, how many of them Commits, and the end of the log
 abbrev pub counts_text : ℕ → ℕ → ℕ → List ℕ
 counts_text lines commits end = codes "lines " ++ (decimal lines ++ (codes " commits " ++ (decimal commits ++ (codes " end " ++ (decimal end ++ 10 ∷ [])))))
+
+-- what `-init` prints of a space that it made
+abbrev pub space_text : Space → List ℕ
+space_text space = codes "space " ++ (space.name ++ (codes " pages " ++ (decimal space.pages ++ 10 ∷ [])))
 
 -- what `-T` prints of a log that was extended
 abbrev pub extension_text : History → History → List ℕ

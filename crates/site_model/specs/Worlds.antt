@@ -1,5 +1,5 @@
 -- The worlds of a site: what its disks stand for.
-use Rattle.std.specs.Prelude.{◌≡◌, ℕ, ◌<◌, List, slice_get, Option, Some, None, nat_lt, if◌then◌else◌}
+use Rattle.std.specs.Prelude.{◌≡◌, ℕ, ◌<◌, List, [], slice_get, Option, Some, None, nat_lt, if◌then◌else◌}
 use Rattle.std.specs.List.{AllByRecursion}
 use Rattle.log_history.specs.History.{Entry, History, write}
 use Rattle.log_history.specs.Effects.{Page, page_at}
@@ -11,6 +11,10 @@ use Rattle.site_headers.specs.Heads.{Head, IsHead}
 pub record Site : Type 0 where
   pub head : Head
   pub history : History
+
+-- a site as it is formatted: its log has no record
+abbrev pub new_site : Head → Site
+new_site head = record { head = head; history = [] }
 
 pub data World : Type 0 where
   unformatted : World

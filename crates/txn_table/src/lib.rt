@@ -1,7 +1,8 @@
 //! The transactions that run in the logical log, as its records are fed one after another.
 //!
-//! A Commit hands out its transaction's Writes in order. A record is refused exactly where it may not follow, and a
-//! refusal changes nothing.
+//! A Commit hands out its transaction's Writes in order. A record is refused exactly for the transactions that are open: a
+//! Begin of one that is, or behind 64 of them, and any other record of one that isn't. Times and the targets of Resets
+//! aren't looked at. A refusal changes nothing.
 #![tactic(auto)]
 
 mod changes;

@@ -33,7 +33,7 @@ fn is_open(running: &[Running], txn: u32) -> bool
     place(running, txn).is_some()
 }
 
-/// Whether a Begin of the transaction may follow.
+/// Refuses a Begin of a transaction that runs, and one behind 64 that do.
 pub(crate) fn may_begin(running: &[Running], txn: u32) -> Result<(), OrderFault>
     ensures { MatchOption (unless_new (lookup txn (table_in running.now)) (length (table_in running.now))) (IsOk result) (λ r. IsErrOf result (fault_of r)) }
 {
@@ -46,7 +46,7 @@ pub(crate) fn may_begin(running: &[Running], txn: u32) -> Result<(), OrderFault>
     Ok(())
 }
 
-/// Whether a Write, Commit or Abort of the transaction may follow.
+/// Refuses a Write, Commit or Abort of a transaction that doesn't run.
 pub(crate) fn may_go_on(running: &[Running], txn: u32) -> Result<(), OrderFault>
     ensures { MatchOption (unless_open (lookup txn (table_in running.now))) (IsOk result) (λ r. IsErrOf result (fault_of r)) }
 {

@@ -38,8 +38,8 @@ impl Open {
         }
     }
 
-    /// The transactions that are open behind these records, which begin at position 1. The first record that may not
-    /// follow those before it is refused.
+    /// The transactions that are open behind these records, which begin at position 1. The first record that `feed`
+    /// refuses is the refusal.
     pub fn replay(alloc: Global, records: &[Record]) -> Result<Open, OrderFault>
         ensures table { IfOk result (λ open_now. open_now ≡ table_of (history_of records.now)) }
         ensures in_order { OnOk result (first_refusal (history_of records.now) ≡ None) }
@@ -53,7 +53,7 @@ impl Open {
         Ok(table)
     }
 
-    /// Whether the record may follow. Takes no memory.
+    /// The refusal that `feed` has for a record, if any. Takes no memory.
     pub fn check(&self, entry: &Record) -> Result<(), OrderFault>
         ensures refused { MatchOption (refusal (entry_of entry.now) self.now) (IsOk result) (λ r. IsErrOf result (fault_of r)) }
         ensures in_order { OnOk result (refusal (entry_of entry.now) self.now ≡ None) }

@@ -1,11 +1,12 @@
 use Rattle.std.proofs.Common.{ℕ, List, drop, arith, subst, ap, ◌∙◌}
 use Rattle.std.proofs.lemmas.List.{take_rest}
+use Rattle.site_disk.specs.Bytes.{filled}
 use Rattle.site_disk.specs.Images.{Leaves}
 use Rattle.site_disk.specs.ImagesLaws.{weaker}
 use Rattle.gated_slots.specs.Header.{MayOpen}
 use Rattle.gated_slots.specs.HeaderLaws.{filled_page_written, may_open}
-use Rattle.gated_slots.specs.Writes.{filled, with_batch, MayAdd}
-use Rattle.gated_slots.proofs.Going.{on_ok}
+use Rattle.gated_slots.specs.Writes.{with_batch, MayAdd}
+use Rattle.site_disk.specs.CallsLaws.{on_ok}
 use Rattle.gated_slots.proofs.header.open_page.Goals as goal
 
 pub returns-clause-written : goal.returns-clause-written

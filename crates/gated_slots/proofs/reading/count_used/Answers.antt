@@ -2,7 +2,7 @@ use Rattle.std.proofs.Common.{◌≡◌, ◌+◌, ◌<◌, ◌≤◌, ◌⊎◌,
 use Rattle.std.proofs.lemmas.List.{length-take-le}
 use Rattle.gated_slots.specs.SlotsLaws.{used_of-nil}
 use Rattle.gated_slots.proofs.Counting.{count_more}
-use Rattle.gated_slots.proofs.Going.{unchanged_again, uses_nothing, uses_again}
+use Rattle.site_disk.specs.CallsLaws.{unchanged_again, uses_nothing, uses_again}
 use Rattle.gated_slots.proofs.reading.count_used.Goals as goal
 use Rattle.gated_slots.proofs.reading.count_used.Goals.{then-found-gt0, else-found-gt0}
 

@@ -1,115 +1,203 @@
-use Rattle.std.proofs.Common.{◌≡◌, ◌∙◌, inl, inr, ℕ, ◌+◌, ◌<◌, List, Err, None, refl, sym, ap, subst, arith}
+use Rattle.std.proofs.Common.{◌≡◌, ◌⊎◌, ◌∙◌, inl, inr, ℕ, ◌+◌, ◌<◌, List, None, Some, Ok, Err, true, refl, sym, ap, subst, arith, ⊎_elim}
+use Rattle.std.proofs.lemmas.Result.{err_from_is_err_and}
 use Rattle.site_headers.specs.Headers.{HasHeader, catalogue_tail}
 use Rattle.site_headers.specs.Views.{head_of}
 use Rattle.site_model.specs.declared.disk_name.DiskName.TheVariants.{Cat, Log}
 use Rattle.site_model.specs.declared.status.Status.{Status}
-use Rattle.site_model.specs.Commands.{frame_of}
+use Rattle.site_model.specs.Commands.{frame_of, IsPassed}
 use Rattle.site_model.specs.Layouts.{Shows, HoldsLog, HasNoCatalogue}
-use Rattle.site_model.specs.Runs.{run_form}
-use Rattle.site_model.specs.Worlds.{unformatted, formatted}
+use Rattle.site_model.specs.declared.status.Status.TheVariants.{NotFormatted}
+use Rattle.site_headers.specs.Heads.{IsHead}
+use Rattle.site_model.specs.Openings.{LogRefuses}
+use Rattle.site_model.specs.Runs.{refused, run_form}
+use Rattle.onbar_grammar.specs.Words.{transactions_form}
+use Rattle.site_model.specs.Steps.{Passes}
+use Rattle.site_model.specs.Worlds.{Site, unformatted, formatted}
 use Rattle.onbar_command.specs.Disks.{contents_of, images_of, Rests}
-use Rattle.onbar_command.specs.Forms.{Finishes}
-use Rattle.onbar_command.proofs.ExtendLemmas.{nothing_new}
-use Rattle.onbar_command.proofs.SiteLemmas.{moved, walk_of, passes_so, found_so, finishes_so, head_finishes}
+use Rattle.onbar_command.specs.declared.report.Report.TheVariants.{Extended as LogExtended}
+use Rattle.onbar_command.specs.declared.site.SiteDisks.{SiteDisks}
+use Rattle.onbar_command.specs.Forms.{IsDone, Finishes}
+use Rattle.onbar_command.proofs.SiteLemmas.{with_log, at_none, at_some, if_some, one_head, stand_for, moved, entered, refused_done, in_place, walk_of, passes_so, found_so, extended_done}
 use Rattle.onbar_command.proofs.form.run_transactions.Goals as goal
 
-pub returns-in-Err-clause-passes : goal.returns-in-Err-clause-passes
-returns-in-Err-clause-passes g c tells_disk tells_source world fit stand =
-    let call = c.in-Err.ensures in
-    passes_so c.args.site.now.disks c.sync_both.new.cat c.sync_both.new.log g.D.Disk.image c.args.era.now.number _ _
-    (λ f bytes le is. call.cat_none f bytes is) (λ f bytes le is. call.log_none f bytes is)
-    (λ f lt a b of_cat of_log. elim call.fault [
-      | inl cat ↦ let failed = call.cat_failed cat in
-          (world, inl refl, inr (failed.1, call.cat_none f a of_cat), inr (ap (λ log. (g.D.Disk.ledger log).synced) failed.0, call.log_none f b of_log))
-      | inr log ↦ let failed = call.log_failed log in (
-        world,
-        inl refl,
-        inl (subst (λ (d : List ℕ). Shows Cat world d) (sym (call.before_log tells_disk log f a (omega (arith, c.next.ensures.number)) of_cat)) (stand Cat)),
-        inr (failed.0, call.log_none f b of_log),
-      )
-    ])
+pub returns-in_err-head-clause-passes : goal.returns-in_err-head-clause-passes
+returns-in_err-head-clause-passes g c tells_disk tells_source world opens stand at =
+    let call = c.in_err-head.ensures in
+    in_place (λ disks. Passes (frame_of c.args.era.now.number (images_of g.D.Disk.image c.args.site.now.disks) (Rests g.D.Disk.ledger c.args.site.now.disks disks)
+    (IsPassed world (run_form c.args.moment world (g.S.Source.left c.args.source.now) at transactions_form))) (images_of g.D.Disk.image disks)) _ _ call.others
+    (entered c.args.site.now.disks c.find_head.new.site.disks.cat c.find_head.new.site.disks.log g.D.Disk.bytes g.D.Disk.image g.D.Disk.ledger c.args.era.now.number
+    call.cat_none call.log_none (call.cat_shows tells_disk) (call.log_shows tells_disk) world stand _ (inl refl))
 
-pub returns-in-Err-read_head-clause-passes : goal.returns-in-Err-read_head-clause-passes
-returns-in-Err-read_head-clause-passes g c tells_disk tells_source world fit stand =
-    let call = c.in_default.ensures in
-    let e = c.next-2.new.self.number in
-    let none = nothing_new e _ _ c.read_head.ensures.crash (λ image is. g.met.D.Disk.now_counts c.sync_both.new.cat e (e + 1) image (omega (arith, c.next-2.ensures.number, call.cat_may.not_past)) (omega (arith, c.next-2.ensures.number, call.cat_may.not_past)) is) in
-    passes_so c.args.site.now.disks c.read_head.new.disk c.sync_both.new.log g.D.Disk.image c.args.era.now.number _ _
-    (λ f bytes le is. call.cat_none f bytes (none f bytes is)) (λ f bytes le is. call.log_none f bytes is)
-    (λ f lt a b of_cat of_log. (
-      world,
-      inl refl,
-      inl (subst (λ (d : List ℕ). Shows Cat world d) (sym (call.cat_only tells_disk f a (omega (arith, c.next.ensures.number)) (none f a of_cat))) (stand Cat)),
-      inl (subst (λ (d : List ℕ). Shows Log world d) (sym (call.log_only tells_disk f b (omega (arith, c.next.ensures.number)) of_log)) (stand Log)),
-    ))
+pub returns-in_default-clause-passes : goal.returns-in_default-clause-passes
+returns-in_default-clause-passes g c tells_disk tells_source world opens stand at =
+    let call = c.in_ok-head.ensures in
+    in_place (λ disks. Passes (frame_of c.args.era.now.number (images_of g.D.Disk.image c.args.site.now.disks) (Rests g.D.Disk.ledger c.args.site.now.disks disks)
+    (IsPassed world (run_form c.args.moment world (g.S.Source.left c.args.source.now) at transactions_form))) (images_of g.D.Disk.image disks)) _ _ call.others
+    (entered c.args.site.now.disks c.find_head.new.site.disks.cat c.find_head.new.site.disks.log g.D.Disk.bytes g.D.Disk.image g.D.Disk.ledger c.args.era.now.number
+    call.cat_none call.log_none (call.cat_shows tells_disk) (call.log_shows tells_disk) world stand _ (inl refl))
 
-pub returns-in-Err-read_head-clause-finishes : goal.returns-in-Err-read_head-clause-finishes
-returns-in-Err-read_head-clause-finishes g c tells_disk tells_source world fit stand =
-    let call = c.in_default.ensures in
-    let read = c.in-Err-read_head.ensures in
-    let e = c.next-2.new.self.number in
-    let none = nothing_new e _ _ c.read_head.ensures.crash (λ image is. g.met.D.Disk.now_counts c.sync_both.new.cat e (e + 1) image (omega (arith, c.next-2.ensures.number, call.cat_may.not_past)) (omega (arith, c.next-2.ensures.number, call.cat_may.not_past)) is) in
-    subst (λ (s : Status). Finishes (run_form c.args.moment world (g.S.Source.left c.args.source.now) None) (g.S.Source.left c.args.source.now) (contents_of g.D.Disk.bytes (moved c.args.site.now.disks c.read_head.new.disk c.sync_both.new.log)) (e + 1)
-    (frame_of c.args.era.now.number (images_of g.D.Disk.image c.args.site.now.disks) (Rests g.D.Disk.ledger c.args.site.now.disks (moved c.args.site.now.disks c.read_head.new.disk c.sync_both.new.log)))
-    (images_of g.D.Disk.image (moved c.args.site.now.disks c.read_head.new.disk c.sync_both.new.log)) (Err s)) (sym c.head_status.ensures)
-    (head_finishes c.args.site.now.disks c.read_head.new.disk c.sync_both.new.log g.D.Disk.bytes g.D.Disk.image c.args.era.now.number e _ c.args.moment (g.S.Source.left c.args.source.now) (g.S.Source.left c.args.source.now)
-    c.in-Err-read_head.fault world fit
-    (λ missing.
-    let is = ap Err missing in
-    let same = read.refused is in (
-      subst (λ (d : List ℕ). HasNoCatalogue d) (sym same) (read.not_formatted tells_disk is),
-      subst (λ (d : List ℕ). Shows Cat world d) (sym (same ∙ call.cat_bytes)) (stand Cat),
-    ))
-    (λ f d lt is. subst (λ (x : List ℕ). Shows Cat world x) (sym (call.cat_only tells_disk f d (omega (arith, c.next-2.ensures.number)) (none f d is))) (stand Cat)))
+pub returns-in_default-clause-finishes : goal.returns-in_default-clause-finishes
+returns-in_default-clause-finishes g c tells_disk tells_source (formatted site) opens stand at =
+    absurd (at_none c.in_ok-head.field-0 _ _ c.in_default.is (c.in_ok-head.ensures.found tells_disk) site.head opens.head (stand Cat))
+returns-in_default-clause-finishes g c tells_disk tells_source unformatted opens stand at =
+    let call = c.in_ok-head.ensures in
+    inr (in_place (λ disks. IsDone true (refused unformatted NotFormatted) (g.S.Source.left c.args.source.now) (contents_of g.D.Disk.bytes disks) (c.find_head.new.era.number + 1)
+    (frame_of c.args.era.now.number (images_of g.D.Disk.image c.args.site.now.disks) (Rests g.D.Disk.ledger c.args.site.now.disks disks)) (images_of g.D.Disk.image disks) (Err NotFormatted)) _ _ call.others
+    (refused_done c.args.site.now.disks c.find_head.new.site.disks.cat c.find_head.new.site.disks.log g.D.Disk.bytes g.D.Disk.image g.D.Disk.ledger c.args.era.now.number
+    call.cat_none call.log_none c.find_head.new.era.number call.era_later (call.cat_only tells_disk) (call.log_only tells_disk) call.cat_bytes call.log_bytes
+    unformatted stand true (g.S.Source.left c.args.source.now) NotFormatted (λ is. cc is)))
+
+pub returns-in_err-extended-clause-refused : goal.returns-in_err-extended-clause-refused
+returns-in_err-extended-clause-refused g c tells =
+    let call = c.in_ok-head.ensures in
+    let p = err_from_is_err_and c.from_residual-in_err-extended.result c.from_residual-in_err-extended.ensures.1 in
+    rw (p.1, p.2) (⊎_elim
+    (λ cut. inl cut)
+    (λ refuses. inr (inr (
+      head_of c.in-Some.head,
+      if_some c.in_ok-head.field-0 c.in-Some.head (λ h. IsHead (head_of h)) c.in-Some.is call.head,
+      at_some c.in_ok-head.field-0 c.in-Some.head (HasNoCatalogue (g.D.Disk.bytes c.args.site.now.disks.cat)) (λ h. HasHeader (catalogue_tail (head_of h)) (g.D.Disk.bytes c.args.site.now.disks.cat)) c.in-Some.is (call.found tells),
+      subst (λ (b : List ℕ). LogRefuses c.in-Some.head.site b c.in_err-extended.field-0.0) call.log_bytes refuses,
+    )))
+    (c.in_err-extended.ensures.refused tells))
+
+pub returns-clause-opens : goal.returns-clause-opens
+returns-clause-opens g c tells =
+    let call = c.in_ok-head.ensures in
+    let head = head_of c.in-Some.head in
+    let is = c.in_ok-extended.ensures.opens tells in
+    let site : Site = record { head = head; history = is.0 } in
+    let of_cat = at_some c.in_ok-head.field-0 c.in-Some.head (HasNoCatalogue (g.D.Disk.bytes c.args.site.now.disks.cat)) (λ h. HasHeader (catalogue_tail (head_of h)) (g.D.Disk.bytes c.args.site.now.disks.cat)) c.in-Some.is (call.found tells) in
+    let of_log = subst (HoldsLog site) call.log_bytes is.2 in (
+      site,
+      record { head = if_some c.in_ok-head.field-0 c.in-Some.head (λ h. IsHead (head_of h)) c.in-Some.is call.head; log = is.1 },
+      stand_for c.args.site.now.disks c.args.site.now.disks.cat c.args.site.now.disks.log g.D.Disk.bytes (formatted site) of_cat of_log,
+    )
+
+pub returns-in_err-extended-clause-passes : goal.returns-in_err-extended-clause-passes
+returns-in_err-extended-clause-passes g c tells_disk tells_source unformatted opens stand at =
+    absurd (stand Cat (head_of c.in-Some.head) (if_some c.in_ok-head.field-0 c.in-Some.head (λ h. IsHead (head_of h)) c.in-Some.is c.in_ok-head.ensures.head)
+    (at_some c.in_ok-head.field-0 c.in-Some.head (HasNoCatalogue (g.D.Disk.bytes c.args.site.now.disks.cat)) (λ h. HasHeader (catalogue_tail (head_of h)) (g.D.Disk.bytes c.args.site.now.disks.cat)) c.in-Some.is (c.in_ok-head.ensures.found tells_disk)))
+returns-in_err-extended-clause-passes g c tells_disk tells_source (formatted site) opens stand at =
+    let call = c.in_ok-head.ensures in
+    let entry = c.args.era.now.number in
+    let e = c.find_head.new.era.number in
+    let left = g.S.Source.left c.args.source.now in
+    let head = head_of c.in-Some.head in
+    let of_cat = at_some c.in_ok-head.field-0 c.in-Some.head (HasNoCatalogue (g.D.Disk.bytes c.args.site.now.disks.cat)) (λ h. HasHeader (catalogue_tail (head_of h)) (g.D.Disk.bytes c.args.site.now.disks.cat)) c.in-Some.is (call.found tells_disk) in
+    let is_head = if_some c.in_ok-head.field-0 c.in-Some.head (λ h. IsHead (head_of h)) c.in-Some.is call.head in
+    let head_is : head ≡ site.head = one_head head site.head _ is_head opens.head of_cat (stand Cat) in
+    let synced : (f : ℕ) (d : List ℕ) → entry + 1 < f → g.D.Disk.image c.find_head.new.site.disks.log f d → HoldsLog site d =
+    λ f d lt is. subst (λ (x : List ℕ). HoldsLog site x) (sym (call.log_only tells_disk f d lt is)) (stand Log) in
+    let told = c.in_err-extended.ensures.extended tells_disk tells_source site (sym head_is) opens.log (subst (λ (x : List ℕ). HoldsLog site x) (sym call.log_bytes) (stand Log))
+    (λ f d lt is. synced f d (omega (arith, call.era_two)) is) in
+    let disks_are = with_log c.extend_log.new.log _ _ call.others in
+    let walk = told.1 in
+    in_place (λ disks. Passes (frame_of entry (images_of g.D.Disk.image c.args.site.now.disks) (Rests g.D.Disk.ledger c.args.site.now.disks disks)
+    (IsPassed (formatted site) (run_form c.args.moment (formatted site) left at transactions_form))) (images_of g.D.Disk.image disks)) _ _ disks_are
+    (passes_so c.args.site.now.disks c.find_head.new.site.disks.cat c.extend_log.new.log g.D.Disk.image entry (Rests g.D.Disk.ledger c.args.site.now.disks (moved c.args.site.now.disks c.find_head.new.site.disks.cat c.extend_log.new.log)) _
+    (λ f d le is. call.cat_none f d is)
+    (λ f d le is. call.log_none f d (walk.earlier f d (omega (arith, call.era_two, le)) is))
+    (found_so c.args.site.now.disks c.find_head.new.site.disks.cat c.extend_log.new.log g.D.Disk.bytes g.D.Disk.image entry (Rests g.D.Disk.ledger c.args.site.now.disks (moved c.args.site.now.disks c.find_head.new.site.disks.cat c.extend_log.new.log)) site c.args.moment left e c.extend_log.new.era.number
+    (g.D.Disk.image c.find_head.new.site.disks.log) (g.S.Source.left c.extend_log.new.source) (Err c.in_err-extended.field-0.0) told
+    (λ f d lt is. subst (λ (x : List ℕ). HasHeader (catalogue_tail site.head) x) (sym (call.cat_only tells_disk f d lt is)) (stand Cat)) synced))
+
+pub returns-in_err-extended-clause-finishes : goal.returns-in_err-extended-clause-finishes
+returns-in_err-extended-clause-finishes g c tells_disk tells_source unformatted opens stand at =
+    absurd (stand Cat (head_of c.in-Some.head) (if_some c.in_ok-head.field-0 c.in-Some.head (λ h. IsHead (head_of h)) c.in-Some.is c.in_ok-head.ensures.head)
+    (at_some c.in_ok-head.field-0 c.in-Some.head (HasNoCatalogue (g.D.Disk.bytes c.args.site.now.disks.cat)) (λ h. HasHeader (catalogue_tail (head_of h)) (g.D.Disk.bytes c.args.site.now.disks.cat)) c.in-Some.is (c.in_ok-head.ensures.found tells_disk)))
+returns-in_err-extended-clause-finishes g c tells_disk tells_source (formatted site) opens stand at =
+    let call = c.in_ok-head.ensures in
+    let entry = c.args.era.now.number in
+    let e = c.find_head.new.era.number in
+    let left = g.S.Source.left c.args.source.now in
+    let head = head_of c.in-Some.head in
+    let of_cat = at_some c.in_ok-head.field-0 c.in-Some.head (HasNoCatalogue (g.D.Disk.bytes c.args.site.now.disks.cat)) (λ h. HasHeader (catalogue_tail (head_of h)) (g.D.Disk.bytes c.args.site.now.disks.cat)) c.in-Some.is (call.found tells_disk) in
+    let is_head = if_some c.in_ok-head.field-0 c.in-Some.head (λ h. IsHead (head_of h)) c.in-Some.is call.head in
+    let head_is : head ≡ site.head = one_head head site.head _ is_head opens.head of_cat (stand Cat) in
+    let synced : (f : ℕ) (d : List ℕ) → entry + 1 < f → g.D.Disk.image c.find_head.new.site.disks.log f d → HoldsLog site d =
+    λ f d lt is. subst (λ (x : List ℕ). HoldsLog site x) (sym (call.log_only tells_disk f d lt is)) (stand Log) in
+    let told = c.in_err-extended.ensures.extended tells_disk tells_source site (sym head_is) opens.log (subst (λ (x : List ℕ). HoldsLog site x) (sym call.log_bytes) (stand Log))
+    (λ f d lt is. synced f d (omega (arith, call.era_two)) is) in
+    let disks_are = with_log c.extend_log.new.log _ _ call.others in
+    let p = err_from_is_err_and c.from_residual-in_err-extended.result c.from_residual-in_err-extended.ensures.1 in
+    rw (p.1, p.2) (inl told.0)
+
+pub returns-in_err-extended-clause-log_written : goal.returns-in_err-extended-clause-log_written
+returns-in_err-extended-clause-log_written g c tells_disk tells_source unformatted opens stand =
+    absurd (stand Cat (head_of c.in-Some.head) (if_some c.in_ok-head.field-0 c.in-Some.head (λ h. IsHead (head_of h)) c.in-Some.is c.in_ok-head.ensures.head)
+    (at_some c.in_ok-head.field-0 c.in-Some.head (HasNoCatalogue (g.D.Disk.bytes c.args.site.now.disks.cat)) (λ h. HasHeader (catalogue_tail (head_of h)) (g.D.Disk.bytes c.args.site.now.disks.cat)) c.in-Some.is (c.in_ok-head.ensures.found tells_disk)))
+returns-in_err-extended-clause-log_written g c tells_disk tells_source (formatted site) opens stand =
+    let call = c.in_ok-head.ensures in
+    let head = head_of c.in-Some.head in
+    let of_cat = at_some c.in_ok-head.field-0 c.in-Some.head (HasNoCatalogue (g.D.Disk.bytes c.args.site.now.disks.cat)) (λ h. HasHeader (catalogue_tail (head_of h)) (g.D.Disk.bytes c.args.site.now.disks.cat)) c.in-Some.is (call.found tells_disk) in
+    let is_head = if_some c.in_ok-head.field-0 c.in-Some.head (λ h. IsHead (head_of h)) c.in-Some.is call.head in
+    let head_is : head ≡ site.head = one_head head site.head _ is_head opens.head of_cat (stand Cat) in
+    let written = c.extend_log.ensures.written tells_disk tells_source site (sym head_is) opens.log (subst (λ (x : List ℕ). HoldsLog site x) (sym call.log_bytes) (stand Log)) in
+    omega (arith, written, call.log_written, call.era_two)
 
 pub returns-clause-passes : goal.returns-clause-passes
-returns-clause-passes g c tells_disk tells_source unformatted fit stand =
-    let read = c.in-Ok.ensures in
-    absurd (stand Cat (head_of c.in-Ok.head) read.head (subst (λ (d : List ℕ). HasHeader (catalogue_tail (head_of c.in-Ok.head)) d) c.in_default.ensures.cat_bytes (read.found tells_disk)))
-returns-clause-passes g c tells_disk tells_source (formatted site) fit stand =
-    let call = c.in_default.ensures in
-    let read = c.in-Ok.ensures in
-    let e = c.next-2.new.self.number in
-    let none = nothing_new e _ _ c.read_head.ensures.crash (λ image is. g.met.D.Disk.now_counts c.sync_both.new.cat e (e + 1) image (omega (arith, c.next-2.ensures.number, call.cat_may.not_past)) (omega (arith, c.next-2.ensures.number, call.cat_may.not_past)) is) in
-    let head_is : head_of c.in-Ok.head ≡ site.head = read.only tells_disk site.head fit.head (subst (λ (d : List ℕ). HasHeader (catalogue_tail site.head) d) (sym call.cat_bytes) (stand Cat)) in
-    let synced : (f : ℕ) (d : List ℕ) → c.next.new.self.number < f → g.D.Disk.image c.sync_both.new.log f d → HoldsLog site d
-    = λ f d lt is. subst (λ (x : List ℕ). HoldsLog site x) (sym (call.log_only tells_disk f d lt is)) (stand Log) in
-    let told = c.extend_log.ensures.extended tells_disk tells_source site (sym head_is) fit.order (subst (λ (x : List ℕ). HoldsLog site x) (sym call.log_bytes) (stand Log))
-    (λ f d lt is. synced f d (omega (arith, c.next-2.ensures.number)) is) in
-    let walk = walk_of site _ _ _ _ _ _ _ _ told in
-    passes_so c.args.site.now.disks c.read_head.new.disk c.extend_log.new.log g.D.Disk.image c.args.era.now.number _ _
-    (λ f bytes le is. call.cat_none f bytes (none f bytes is))
-    (λ f bytes le is. call.log_none f bytes (walk.earlier f bytes (omega (arith, c.next.ensures.number, c.next-2.ensures.number)) is))
-    (found_so c.args.site.now.disks c.read_head.new.disk c.extend_log.new.log g.D.Disk.bytes g.D.Disk.image c.args.era.now.number (Rests g.D.Disk.ledger c.args.site.now.disks (moved c.args.site.now.disks c.read_head.new.disk c.extend_log.new.log)) site c.args.moment (g.S.Source.left c.args.source.now) e c.extend_log.new.era.number
-    (g.D.Disk.image c.sync_both.new.log) (g.S.Source.left c.extend_log.new.source) c.extend_log.result told
-    (λ f d lt is. subst (λ (x : List ℕ). HasHeader (catalogue_tail site.head) x) (sym (call.cat_only tells_disk f d (omega (arith, c.next.ensures.number)) (none f d is))) (stand Cat))
-    (λ f d lt is. synced f d (omega (arith, c.next.ensures.number)) is))
+returns-clause-passes g c tells_disk tells_source unformatted opens stand at =
+    absurd (stand Cat (head_of c.in-Some.head) (if_some c.in_ok-head.field-0 c.in-Some.head (λ h. IsHead (head_of h)) c.in-Some.is c.in_ok-head.ensures.head)
+    (at_some c.in_ok-head.field-0 c.in-Some.head (HasNoCatalogue (g.D.Disk.bytes c.args.site.now.disks.cat)) (λ h. HasHeader (catalogue_tail (head_of h)) (g.D.Disk.bytes c.args.site.now.disks.cat)) c.in-Some.is (c.in_ok-head.ensures.found tells_disk)))
+returns-clause-passes g c tells_disk tells_source (formatted site) opens stand at =
+    let call = c.in_ok-head.ensures in
+    let entry = c.args.era.now.number in
+    let e = c.find_head.new.era.number in
+    let left = g.S.Source.left c.args.source.now in
+    let head = head_of c.in-Some.head in
+    let of_cat = at_some c.in_ok-head.field-0 c.in-Some.head (HasNoCatalogue (g.D.Disk.bytes c.args.site.now.disks.cat)) (λ h. HasHeader (catalogue_tail (head_of h)) (g.D.Disk.bytes c.args.site.now.disks.cat)) c.in-Some.is (call.found tells_disk) in
+    let is_head = if_some c.in_ok-head.field-0 c.in-Some.head (λ h. IsHead (head_of h)) c.in-Some.is call.head in
+    let head_is : head ≡ site.head = one_head head site.head _ is_head opens.head of_cat (stand Cat) in
+    let synced : (f : ℕ) (d : List ℕ) → entry + 1 < f → g.D.Disk.image c.find_head.new.site.disks.log f d → HoldsLog site d =
+    λ f d lt is. subst (λ (x : List ℕ). HoldsLog site x) (sym (call.log_only tells_disk f d lt is)) (stand Log) in
+    let told = c.in_ok-extended.ensures.extended tells_disk tells_source site (sym head_is) opens.log (subst (λ (x : List ℕ). HoldsLog site x) (sym call.log_bytes) (stand Log))
+    (λ f d lt is. synced f d (omega (arith, call.era_two)) is) in
+    let disks_are = with_log c.extend_log.new.log _ _ call.others in
+    let walk = told.walk in
+    in_place (λ disks. Passes (frame_of entry (images_of g.D.Disk.image c.args.site.now.disks) (Rests g.D.Disk.ledger c.args.site.now.disks disks)
+    (IsPassed (formatted site) (run_form c.args.moment (formatted site) left at transactions_form))) (images_of g.D.Disk.image disks)) _ _ disks_are
+    (passes_so c.args.site.now.disks c.find_head.new.site.disks.cat c.extend_log.new.log g.D.Disk.image entry (Rests g.D.Disk.ledger c.args.site.now.disks (moved c.args.site.now.disks c.find_head.new.site.disks.cat c.extend_log.new.log)) _
+    (λ f d le is. call.cat_none f d is)
+    (λ f d le is. call.log_none f d (walk.earlier f d (omega (arith, call.era_two, le)) is))
+    (found_so c.args.site.now.disks c.find_head.new.site.disks.cat c.extend_log.new.log g.D.Disk.bytes g.D.Disk.image entry (Rests g.D.Disk.ledger c.args.site.now.disks (moved c.args.site.now.disks c.find_head.new.site.disks.cat c.extend_log.new.log)) site c.args.moment left e c.extend_log.new.era.number
+    (g.D.Disk.image c.find_head.new.site.disks.log) (g.S.Source.left c.extend_log.new.source) (Ok c.in_ok-extended.extended) told
+    (λ f d lt is. subst (λ (x : List ℕ). HasHeader (catalogue_tail site.head) x) (sym (call.cat_only tells_disk f d lt is)) (stand Cat)) synced))
 
 pub returns-clause-finishes : goal.returns-clause-finishes
-returns-clause-finishes g c tells_disk tells_source unformatted fit stand =
-    let read = c.in-Ok.ensures in
-    absurd (stand Cat (head_of c.in-Ok.head) read.head (subst (λ (d : List ℕ). HasHeader (catalogue_tail (head_of c.in-Ok.head)) d) c.in_default.ensures.cat_bytes (read.found tells_disk)))
-returns-clause-finishes g c tells_disk tells_source (formatted site) fit stand =
-    let call = c.in_default.ensures in
-    let read = c.in-Ok.ensures in
-    let e = c.next-2.new.self.number in
-    let none = nothing_new e _ _ c.read_head.ensures.crash (λ image is. g.met.D.Disk.now_counts c.sync_both.new.cat e (e + 1) image (omega (arith, c.next-2.ensures.number, call.cat_may.not_past)) (omega (arith, c.next-2.ensures.number, call.cat_may.not_past)) is) in
-    let head_is : head_of c.in-Ok.head ≡ site.head = read.only tells_disk site.head fit.head (subst (λ (d : List ℕ). HasHeader (catalogue_tail site.head) d) (sym call.cat_bytes) (stand Cat)) in
-    let synced : (f : ℕ) (d : List ℕ) → c.next.new.self.number < f → g.D.Disk.image c.sync_both.new.log f d → HoldsLog site d
-    = λ f d lt is. subst (λ (x : List ℕ). HoldsLog site x) (sym (call.log_only tells_disk f d lt is)) (stand Log) in
-    let told = c.extend_log.ensures.extended tells_disk tells_source site (sym head_is) fit.order (subst (λ (x : List ℕ). HoldsLog site x) (sym call.log_bytes) (stand Log))
-    (λ f d lt is. synced f d (omega (arith, c.next-2.ensures.number)) is) in
-    finishes_so c.args.site.now.disks c.read_head.new.disk c.extend_log.new.log g.D.Disk.bytes g.D.Disk.image c.args.era.now.number (Rests g.D.Disk.ledger c.args.site.now.disks (moved c.args.site.now.disks c.read_head.new.disk c.extend_log.new.log)) site c.args.moment (g.S.Source.left c.args.source.now) e c.extend_log.new.era.number
-    (g.D.Disk.image c.sync_both.new.log) (g.S.Source.left c.extend_log.new.source) c.extend_log.result told
-    (subst (λ (d : List ℕ). HasHeader (catalogue_tail site.head) d) (sym (read.bytes ∙ call.cat_bytes)) (stand Cat))
-    (λ f d lt is. subst (λ (x : List ℕ). HasHeader (catalogue_tail site.head) x) (sym (call.cat_only tells_disk f d (omega (arith, c.next-2.ensures.number, c.extend_log.ensures.era_later)) (none f d is))) (stand Cat))
+returns-clause-finishes g c tells_disk tells_source unformatted opens stand at =
+    absurd (stand Cat (head_of c.in-Some.head) (if_some c.in_ok-head.field-0 c.in-Some.head (λ h. IsHead (head_of h)) c.in-Some.is c.in_ok-head.ensures.head)
+    (at_some c.in_ok-head.field-0 c.in-Some.head (HasNoCatalogue (g.D.Disk.bytes c.args.site.now.disks.cat)) (λ h. HasHeader (catalogue_tail (head_of h)) (g.D.Disk.bytes c.args.site.now.disks.cat)) c.in-Some.is (c.in_ok-head.ensures.found tells_disk)))
+returns-clause-finishes g c tells_disk tells_source (formatted site) opens stand at =
+    let call = c.in_ok-head.ensures in
+    let entry = c.args.era.now.number in
+    let e = c.find_head.new.era.number in
+    let left = g.S.Source.left c.args.source.now in
+    let head = head_of c.in-Some.head in
+    let of_cat = at_some c.in_ok-head.field-0 c.in-Some.head (HasNoCatalogue (g.D.Disk.bytes c.args.site.now.disks.cat)) (λ h. HasHeader (catalogue_tail (head_of h)) (g.D.Disk.bytes c.args.site.now.disks.cat)) c.in-Some.is (call.found tells_disk) in
+    let is_head = if_some c.in_ok-head.field-0 c.in-Some.head (λ h. IsHead (head_of h)) c.in-Some.is call.head in
+    let head_is : head ≡ site.head = one_head head site.head _ is_head opens.head of_cat (stand Cat) in
+    let synced : (f : ℕ) (d : List ℕ) → entry + 1 < f → g.D.Disk.image c.find_head.new.site.disks.log f d → HoldsLog site d =
+    λ f d lt is. subst (λ (x : List ℕ). HoldsLog site x) (sym (call.log_only tells_disk f d lt is)) (stand Log) in
+    let told = c.in_ok-extended.ensures.extended tells_disk tells_source site (sym head_is) opens.log (subst (λ (x : List ℕ). HoldsLog site x) (sym call.log_bytes) (stand Log))
+    (λ f d lt is. synced f d (omega (arith, call.era_two)) is) in
+    let disks_are = with_log c.extend_log.new.log _ _ call.others in
+    in_place (λ disks. IsDone true (run_form c.args.moment (formatted site) left at transactions_form) (g.S.Source.left c.extend_log.new.source) (contents_of g.D.Disk.bytes disks) (c.extend_log.new.era.number + 1)
+    (frame_of entry (images_of g.D.Disk.image c.args.site.now.disks) (Rests g.D.Disk.ledger c.args.site.now.disks disks)) (images_of g.D.Disk.image disks) (Ok (LogExtended c.in_ok-extended.extended))) _ _ disks_are
+    (extended_done c.args.site.now.disks c.find_head.new.site.disks.cat c.extend_log.new.log g.D.Disk.bytes g.D.Disk.image entry (Rests g.D.Disk.ledger c.args.site.now.disks (moved c.args.site.now.disks c.find_head.new.site.disks.cat c.extend_log.new.log)) site c.args.moment left e c.extend_log.new.era.number
+    (g.D.Disk.image c.find_head.new.site.disks.log) (g.S.Source.left c.extend_log.new.source) c.in_ok-extended.extended told
+    (subst (λ (x : List ℕ). HasHeader (catalogue_tail site.head) x) (sym call.cat_bytes) (stand Cat))
+    (λ f d lt is. subst (λ (x : List ℕ). HasHeader (catalogue_tail site.head) x) (sym (call.cat_only tells_disk f d (omega (arith, call.era_two, c.extend_log.ensures.era_later, lt)) is)) (stand Cat)))
 
 pub returns-clause-log_written : goal.returns-clause-log_written
-returns-clause-log_written g c tells_disk tells_source unformatted fit stand =
-    let read = c.in-Ok.ensures in
-    absurd (stand Cat (head_of c.in-Ok.head) read.head (subst (λ (d : List ℕ). HasHeader (catalogue_tail (head_of c.in-Ok.head)) d) c.in_default.ensures.cat_bytes (read.found tells_disk)))
-returns-clause-log_written g c tells_disk tells_source (formatted site) fit stand =
-    let call = c.in_default.ensures in
-    let head_is : head_of c.in-Ok.head ≡ site.head = c.in-Ok.ensures.only tells_disk site.head fit.head (subst (λ (d : List ℕ). HasHeader (catalogue_tail site.head) d) (sym call.cat_bytes) (stand Cat)) in
-    let written = c.extend_log.ensures.written tells_disk tells_source site (sym head_is) fit.order (subst (λ (x : List ℕ). HoldsLog site x) (sym call.log_bytes) (stand Log)) in
-    omega (arith, written, call.log_bytes_moved.1, c.next.ensures.number, c.next-2.ensures.number)
+returns-clause-log_written g c tells_disk tells_source unformatted opens stand =
+    absurd (stand Cat (head_of c.in-Some.head) (if_some c.in_ok-head.field-0 c.in-Some.head (λ h. IsHead (head_of h)) c.in-Some.is c.in_ok-head.ensures.head)
+    (at_some c.in_ok-head.field-0 c.in-Some.head (HasNoCatalogue (g.D.Disk.bytes c.args.site.now.disks.cat)) (λ h. HasHeader (catalogue_tail (head_of h)) (g.D.Disk.bytes c.args.site.now.disks.cat)) c.in-Some.is (c.in_ok-head.ensures.found tells_disk)))
+returns-clause-log_written g c tells_disk tells_source (formatted site) opens stand =
+    let call = c.in_ok-head.ensures in
+    let head = head_of c.in-Some.head in
+    let of_cat = at_some c.in_ok-head.field-0 c.in-Some.head (HasNoCatalogue (g.D.Disk.bytes c.args.site.now.disks.cat)) (λ h. HasHeader (catalogue_tail (head_of h)) (g.D.Disk.bytes c.args.site.now.disks.cat)) c.in-Some.is (call.found tells_disk) in
+    let is_head = if_some c.in_ok-head.field-0 c.in-Some.head (λ h. IsHead (head_of h)) c.in-Some.is call.head in
+    let head_is : head ≡ site.head = one_head head site.head _ is_head opens.head of_cat (stand Cat) in
+    let written = c.extend_log.ensures.written tells_disk tells_source site (sym head_is) opens.log (subst (λ (x : List ℕ). HoldsLog site x) (sym call.log_bytes) (stand Log)) in
+    omega (arith, written, call.log_written, call.era_two)

@@ -3,7 +3,7 @@ use Rattle.std.proofs.lemmas.List.{with_items_is}
 use Rattle.std.specs.Vec.{with_items}
 use Rattle.block_chain.specs.Table.{Table, IsListOf, blocks_of}
 use Rattle.block_chain.specs.Layout.{table_of, joined_links}
-use Rattle.block_chain.proofs.BlockLemmas.{ArePartition-given}
+use Rattle.block_chain.specs.BlocksLaws.{ArePartition-given}
 use Rattle.block_chain.proofs.LayoutLemmas.{lens_fit, IsChain-list, returned_once, IsLaidOut-joined, free_blocks-joined, KeepsOthers-joined}
 use Rattle.block_chain.proofs.table.Chains.give_back.Goals as goal
 

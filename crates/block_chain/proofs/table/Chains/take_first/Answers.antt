@@ -4,7 +4,7 @@ use Rattle.std.specs.Vec.{with_items}
 use Rattle.block_chain.specs.Table.{Table, KeepsOthers, MovesFirst}
 use Rattle.block_chain.specs.Layout.{joined, joined_links, table_of}
 use Rattle.block_chain.specs.declared.lists.BlockList.{BlockList}
-use Rattle.block_chain.proofs.BlockLemmas.{ArePartition-taken}
+use Rattle.block_chain.specs.BlocksLaws.{ArePartition-taken}
 use Rattle.block_chain.proofs.TakeLemmas.{HasTaken, single, front_chain, single_chain, single_once, single_fits, laid_out_after, free_after, list_after, own_after, others_after}
 use Rattle.block_chain.proofs.table.Chains.take_first.Goals as goal
 

@@ -5,7 +5,7 @@ use Rattle.site_headers.specs.Views.{head_of}
 use Rattle.site_model.specs.declared.disk_name.DiskName.TheVariants.{Cat, Log}
 use Rattle.site_model.specs.Layouts.{HasNoCatalogue, HoldsLog}
 use Rattle.onbar_command.specs.Disks.{contents_of}
-use Rattle.onbar_command.specs.Formatting.{new_site}
+use Rattle.site_model.specs.Worlds.{new_site}
 use Rattle.onbar_command.proofs.FormattingLemmas.{Ok-by_another, both_at_Ok, at_Ok, stands_new, stands_none, stands_either, images_new, images_back, from_era}
 use Rattle.onbar_command.proofs.site.Site.format.Goals as goal
 

@@ -1,0 +1,33 @@
+# The program `onbar`, by the kit's command `rt`. `make` proves it and builds bin/onbar.
+
+PREFIX ?= /usr/local
+DESTDIR ?=
+RT ?= rt
+
+.PHONY: all demo bench check install clean
+
+# `rt run` builds and then runs. Without words the program ends with exit status 5, and makes the files of a site, empty.
+all:
+	cd crates/onbar_main && { $(RT) run </dev/null >/dev/null || test $$? -eq 5; }
+	cd crates/onbar_main && rm -f cat spare boot log vol[01][0-9] chunk[01][0-9]
+	mkdir -p bin
+	cp crates/onbar_main/out/onbar_main bin/onbar
+
+# A sample site, with a run that is killed.
+demo: all
+	demo/killed_run.sh bin/onbar
+
+# Throughput and memory. Not part of the checks.
+bench: all
+	bench/log_script.sh bin/onbar
+
+# Proofs, must-fail edits, tests and stored runs.
+check:
+	$(RT) ci
+
+install: all
+	install -d $(DESTDIR)$(PREFIX)/bin
+	install -m 755 bin/onbar $(DESTDIR)$(PREFIX)/bin/onbar
+
+clean:
+	rm -rf bin

@@ -1,0 +1,5 @@
+pub mod Saved
+pub mod ListLaws
+pub mod SpelledLaws
+pub mod PagesLaws
+pub mod RegionLaws

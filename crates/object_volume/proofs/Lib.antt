@@ -1,0 +1,9 @@
+pub mod ReadingLemmas
+pub mod CheckingLemmas
+pub mod OutsideLemmas
+pub mod TakingLemmas
+pub mod PuttingLemmas
+pub mod SendingLemmas
+pub mod VolumeLemmas
+pub mod EndingLemmas
+pub mod FormattingLemmas

@@ -1,0 +1,127 @@
+use Rattle.std.proofs.Common.{◌≡◌, ℕ, ◌+◌, ◌-◌, ◌*◌, ◌<◌, ◌≤◌, ◌++◌, ◌⊎◌, List, min, length, take, drop, refl, arith, ap, sym, ◌∙◌, get_or, append_assoc, inl, inr}
+use Rattle.std.proofs.lemmas.List.{append-nil}
+use Rattle.site_disk.specs.Bytes.{extent}
+use Rattle.site_disk.specs.CallsLaws.{unchanged_again, uses_nothing, uses_again}
+use Rattle.block_chain.specs.Blocks.{blocks_of_runs}
+use Rattle.object_volume.specs.Objects.{place_of, places, bytes_at, object_part}
+use Rattle.object_volume.proofs.ReadingLemmas.{part_places, run_places, skips_run, reads_run, ends_in_run, nothing_left, count_found}
+use Rattle.object_volume.proofs.reading.read_object.Goals as goal
+use Rattle.object_volume.proofs.reading.read_object.Goals.{then-got-n-via-then-got-n, then-got-n-via-else-got-n+then-done-wanted}
+
+pub loop-run-init : goal.loop-run-init
+loop-run-init g c =
+    let least : c.min-wanted.result ≡ min (c.args.size - c.args.at) (length c.args.into.now) = omega arith in
+    let all : c.min-wanted.result ≡ c.min-wanted.result - 0 = omega arith in
+    let ps : List ℕ = places (blocks_of_runs c.args.runs.now) in
+    record {
+      within = omega arith;
+      least = least;
+      room = refl;
+      stands = λ tells. ap (bytes_at (g.D.Disk.bytes c.args.disk.now)) (part_places c.args.at c.args.size (length c.args.into.now) c.min-wanted.result ps least
+          ∙ ap (λ (k : ℕ). take k (drop c.args.at ps)) all);
+      content = refl;
+      images = record { forth = λ f b is. is; back = λ f b is. is };
+      uses = uses_nothing c.requires.era;
+    }
+
+pub loop-run-preserved-then-len-skip : goal.loop-run-preserved-then-len-skip
+loop-run-preserved-then-len-skip g c =
+    let so_far = c.loop-run.invariant in
+    let runs = c.args.runs.now in
+    let index = c.loop-run.run-index in
+    let len : ℕ = 4096 * c.from-len.result in
+    let first : ℕ = place_of (get_or runs index (record { first = 0; count = 0 })).first in
+    let left = run_places runs index first c.from-len.result (record { first = 0; count = 0 }) c.loop-run-test.true refl c.from-len.ensures in
+    record {
+      within = so_far.within;
+      least = so_far.least;
+      room = so_far.room;
+      stands = λ tells. so_far.stands tells ∙ ap (λ (l : List ℕ). take c.loop-run.done c.loop-run.into ++ l)
+          (skips_run (g.D.Disk.bytes c.args.disk.now) (c.min-wanted.result - c.loop-run.done) first len c.loop-run.skip
+          (places (blocks_of_runs (drop index runs))) (places (blocks_of_runs (drop (index + 1) runs))) left c.if-len-skip.true);
+      content = so_far.content;
+      images = so_far.images;
+      uses = so_far.uses;
+    }
+
+pub loop-run-preserved : goal.loop-run-preserved
+loop-run-preserved g c =
+    let so_far = c.loop-run.invariant in
+    let read = c.in_ok-got.ensures in
+    let runs = c.args.runs.now in
+    let index = c.loop-run.run-index in
+    let len : ℕ = 4096 * c.from-len.result in
+    let file = g.D.Disk.bytes c.args.disk.now in
+    let n = c.min-n.result in
+    let done = c.loop-run.done in
+    let room : ℕ = c.min-wanted.result - done in
+    let left = run_places runs index c.place_of.result c.from-len.result (record { first = 0; count = 0 }) c.loop-run-test.true c.place_of.ensures c.from-len.ensures in
+    let behind : List ℕ = places (blocks_of_runs (drop (index + 1) runs)) in
+    let bound : c.in_ok-got.got ≤ n = read.bound in
+    let least : n ≡ min (len - c.loop-run.skip) room = c.min-n.ensures in
+    let few : n ≤ room = omega (arith, least) in
+    let got : c.in_ok-got.got ≡ n = omega (arith, bound, c.if-got-n.false) in
+    let less : room - n ≡ c.min-wanted.result - (done + c.in_ok-got.got) = omega (arith, got) in
+    record {
+      within = omega (arith, so_far.within, few, got);
+      least = so_far.least;
+      room = omega (arith, so_far.room);
+      stands = λ tells.
+          let found = read.found tells in
+          let whole = read.count tells in
+          so_far.stands tells
+          ∙ ap (λ (l : List ℕ). take done c.loop-run.into ++ l)
+          (reads_run file room c.place_of.result len c.loop-run.skip n (places (blocks_of_runs (drop index runs))) behind left (omega (arith, c.if-len-skip.false)) least
+          (ap (λ (b : List ℕ). length (extent (c.place_of.result + c.loop-run.skip) n b)) (sym so_far.content) ∙ sym whole ∙ got))
+          ∙ sym (append_assoc (take done c.loop-run.into) (extent (c.place_of.result + c.loop-run.skip) n file) (bytes_at file (take (room - n) behind)))
+          ∙ ap (λ (l : List ℕ). l ++ bytes_at file (take (room - n) behind))
+          (sym (found ∙ ap (λ (b : List ℕ). take done c.loop-run.into ++ extent (c.place_of.result + c.loop-run.skip) n b) so_far.content))
+          ∙ ap (λ (k : ℕ). take (done + c.in_ok-got.got) c.read_piece.new.into ++ bytes_at file (take k behind)) less;
+      content = read.bytes ∙ so_far.content;
+      images = unchanged_again so_far.images read.images;
+      uses = uses_again so_far.uses read.ledger (omega (arith, got));
+    }
+
+pub returns-clause-found : goal.returns-clause-found
+returns-clause-found g c tells =
+    let so_far = c.loop-run.invariant in
+    let file = g.D.Disk.bytes c.args.disk.now in
+    sym (so_far.stands tells ∙ ap (λ (l : List ℕ). take c.loop-run.done c.loop-run.into ++ l)
+    (nothing_left file (c.min-wanted.result - c.loop-run.done) c.loop-run.skip c.loop-run.run-index c.args.runs.now (omega (arith, c.loop-run-test.false)))
+    ∙ append-nil (take c.loop-run.done c.loop-run.into))
+
+pub returns-clause-count : goal.returns-clause-count
+returns-clause-count g c tells =
+    let so_far = c.loop-run.invariant in
+    count_found c.loop-run.done c.loop-run.into (object_part c.args.runs.now c.args.size c.args.at (length c.args.into.now) (g.D.Disk.bytes c.args.disk.now))
+    (omega (arith, so_far.within, so_far.least, so_far.room)) (returns-clause-found g c tells)
+
+pub returns-then-got-n-clause-found : goal.returns-then-got-n-clause-found
+returns-then-got-n-clause-found g c tells =
+    let so_far = c.loop-run.invariant in
+    let read = c.in_ok-got.ensures in
+    let runs = c.args.runs.now in
+    let index = c.loop-run.run-index in
+    let file = g.D.Disk.bytes c.args.disk.now in
+    let n = c.min-n.result in
+    let done = c.loop-run.done in
+    let from : ℕ = c.place_of.result + c.loop-run.skip in
+    let left = run_places runs index c.place_of.result c.from-len.result (record { first = 0; count = 0 }) c.loop-run-test.true c.place_of.ensures c.from-len.ensures in
+    let long : length (extent from n file) ≡ c.in_ok-got.got = ap (λ (b : List ℕ). length (extent from n b)) (sym so_far.content) ∙ sym (read.count tells) in
+    let bound : c.in_ok-got.got ≤ n = read.bound in
+    let last : (length (extent from n file) < n) ⊎ ((length (extent from n file) ≡ n) × (c.min-wanted.result - done ≡ n)) = elim c.then-got-n.branch [
+      | then-got-n-via-then-got-n w ↦ inl (omega (arith, long, w.if-got-n.true))
+      | then-got-n-via-else-got-n+then-done-wanted w ↦ inr (omega (arith, long, bound, w.if-got-n.false), omega (arith, bound, w.if-got-n.false, w.if-done-wanted.true))
+    ] in
+    read.found tells
+    ∙ ap (λ (b : List ℕ). take done c.loop-run.into ++ extent from n b) so_far.content
+    ∙ sym (so_far.stands tells ∙ ap (λ (l : List ℕ). take done c.loop-run.into ++ l)
+    (ends_in_run file (c.min-wanted.result - done) c.place_of.result (4096 * c.from-len.result) c.loop-run.skip n (places (blocks_of_runs (drop index runs)))
+    (places (blocks_of_runs (drop (index + 1) runs))) left (omega (arith, c.if-len-skip.false)) c.min-n.ensures last))
+
+pub returns-then-got-n-clause-count : goal.returns-then-got-n-clause-count
+returns-then-got-n-clause-count g c tells =
+    let so_far = c.loop-run.invariant in
+    let bound : c.in_ok-got.got ≤ c.min-n.result = c.in_ok-got.ensures.bound in
+    count_found (c.loop-run.done + c.in_ok-got.got) c.read_piece.new.into (object_part c.args.runs.now c.args.size c.args.at (length c.args.into.now) (g.D.Disk.bytes c.args.disk.now))
+    (omega (arith, so_far.within, so_far.least, so_far.room, bound)) (returns-then-got-n-clause-found g c tells)

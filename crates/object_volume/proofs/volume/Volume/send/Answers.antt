@@ -1,0 +1,69 @@
+use Rattle.std.proofs.Common.{◌≡◌, ℕ, ◌+◌, ◌-◌, ◌*◌, ◌/◌, ◌%◌, ◌≤◌, List, ◌++◌, length, ap, sym, ◌∙◌, subst, refl, Option}
+use Rattle.std.proofs.lemmas.Option.{same_Some}
+use Rattle.site_disk.specs.CallsLaws.{on_ok}
+use Rattle.block_chain.specs.Blocks.{AreApart, ArePartition, blocks_of_runs}
+use Rattle.block_chain.specs.Table.{Table, blocks_of, AreListed}
+use Rattle.object_volume.specs.declared.sending.Sending.{Sending}
+use Rattle.object_volume.specs.Objects.{place_of, blocks_for}
+use Rattle.object_volume.specs.Sending.{IsSent}
+use Rattle.object_volume.specs.Volumes.{blocks_or_none, blocks_sent}
+use Rattle.object_volume.proofs.VolumeLemmas.{same_table, live_listed, live_apart}
+use Rattle.object_volume.proofs.volume.Volume.send.Goals as goal
+
+pub returns-clause-taken : goal.returns-clause-taken
+returns-clause-taken g c message s =
+    let volume = c.args.self.now in
+    let chains = c.in-Some.chains in
+    let object = c.in-Some-object.object in
+    let n : ℕ = length c.args.bytes.now in
+    let e = same_table volume.chains chains c.in-Some.is in
+    let size : object.size ≡ length message = ap (λ (o : Sending). o.size) (same_Some object s.object (sym c.in-Some-object.is ∙ s.begun)) ∙ s.sent.size in
+    let before = ap (λ (t : Table). blocks_or_none t volume.object) e ∙ ap (blocks_or_none chains) c.in-Some-object.is in
+    on_ok c.send_piece.result
+    (λ t. record {
+      taken = t.taken;
+      counted = t.counted ∙ ap (λ (k : ℕ). blocks_for (k + n) - blocks_for k) size;
+      free = ap (λ (table : Table). table.free) e ∙ t.takes.free;
+      sent = t.takes.list ∙ ap (λ (l : List ℕ). l ++ t.taken) (sym before);
+      blocks = t.takes.blocks ∙ ap (λ (table : Table). table.blocks) (sym e);
+      parted = λ others are. t.takes.parted others
+          (subst (λ (l : List ℕ). ArePartition chains.blocks (chains.free ++ (l ++ others))) before
+          (subst (λ (table : Table). ArePartition table.blocks (table.free ++ (blocks_sent volume ++ others))) e are));
+    }) c.send_piece.ensures.taken
+
+pub returns-clause-live : goal.returns-clause-live
+returns-clause-live g c runs is =
+    let volume = c.args.self.now in
+    let chains = c.in-Some.chains in
+    let object = c.in-Some-object.object in
+    let e = same_table volume.chains chains c.in-Some.is in
+    let xs : List ℕ = blocks_of_runs runs in
+    let listed : AreListed chains xs = subst (λ (t : Table). AreListed t xs) e is.listed in
+    let apart : AreApart (blocks_of chains object.list) xs =
+    subst (λ (x : Option Sending). AreApart (blocks_or_none chains x) xs) c.in-Some-object.is (subst (λ (t : Table). AreApart (blocks_or_none t volume.object) xs) e is.apart) in
+    on_ok c.send_piece.result
+    (λ t. record {
+      listed = live_listed chains c.send_piece.new.chains object.list c.send_piece.new.object.list t.taken t.takes xs listed apart;
+      apart = live_apart chains c.send_piece.new.chains object.list c.send_piece.new.object.list t.taken t.takes xs listed apart;
+    }) c.send_piece.ensures.taken
+
+pub returns-clause-begun : goal.returns-clause-begun
+returns-clause-begun g c =
+    let volume = c.args.self.now in
+    let object = c.in-Some-object.object in
+    let begun = c.requires.begun in
+    on_ok c.send_piece.result
+    (λ sent. record { message = begun.message ++ c.args.bytes.now; sends = record { object = c.send_piece.new.object; begun = refl; sent = sent } })
+    (c.send_piece.ensures.sent begun.message
+    (subst (λ (o : Sending). IsSent g.D.Disk.tells (g.D.Disk.bytes volume.disk) c.in-Some.chains o volume.part begun.message) (same_Some begun.sends.object object (sym begun.sends.begun ∙ c.in-Some-object.is))
+    (subst (λ (t : Table). IsSent g.D.Disk.tells (g.D.Disk.bytes volume.disk) t begun.sends.object volume.part begun.message) (same_table volume.chains c.in-Some.chains c.in-Some.is) begun.sends.sent)))
+
+pub returns-clause-bound : goal.returns-clause-bound
+returns-clause-bound g c tells full message s =
+    let volume = c.args.self.now in
+    let chains = c.in-Some.chains in
+    let object = c.in-Some-object.object in
+    let limit : ℕ = length (g.D.Disk.bytes volume.disk) in
+    let size : object.size ≡ length message = ap (λ (o : Sending). o.size) (same_Some object s.object (sym c.in-Some-object.is ∙ s.begun)) ∙ s.sent.size in
+    subst (λ (k : ℕ). (g.D.Disk.ledger c.send_piece.new.disk).written ≤ (g.D.Disk.ledger volume.disk).written + 4096 * ((k % 4096 + length c.args.bytes.now) / 4096)) size
+    (c.send_piece.ensures.bound tells (subst (λ (t : Table). place_of t.blocks ≤ limit) (same_table volume.chains chains c.in-Some.is) full))

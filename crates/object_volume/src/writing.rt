@@ -1,0 +1,85 @@
+//! Writes of whole blocks.
+ghost use Rattle.std.specs.Prelude.{◌≡◌, ◌+◌, ◌-◌, ◌*◌, ◌/◌, ◌%◌, ◌<◌, ◌≤◌, ◌^◌, ◌++◌, [], ◌∷◌, length, IsTrue, OnOk};
+ghost use Rattle.site_disk.specs.Bytes.{filled, written};
+ghost use Rattle.site_disk.specs.Causes.{HasCause};
+ghost use Rattle.site_disk.specs.Images.{Leaves};
+ghost use Rattle.site_disk.specs.Ledger.{MayUse, Uses};
+ghost use Rattle.block_chain.specs.Table.{IsListOf};
+ghost use Rattle.object_volume.specs.Objects.{place_of, Outside, Spares};
+ghost use Rattle.object_volume.specs.Taking.{Takes, PutsBlocks};
+
+use crate::reading::{BLOCK_LEN, place_of};
+use block_chain::{BlockList, Chains};
+use site_disk::{Disk, Era, Failed, reach};
+
+/// Writes a piece at a place, after zero bytes up to it where the volume ends before it.
+pub(crate) fn write_run<D: Disk>(
+    disk: &mut D,
+    era: &Era,
+    place: u64,
+    piece: &[u8],
+) -> Result<(), Failed>
+    requires era { MayUse era.now (D.ledger disk.old) }
+    ensures bytes { IsTrue D.tells
+        → OnOk result (D.bytes disk.new ≡ written place piece.now (filled place (D.bytes disk.old))) }
+    ensures crash { IsTrue D.tells → Leaves era.now.number
+        (Outside place (length piece.now) (length (D.bytes disk.old))) (D.image disk.old) (D.image disk.new) }
+    ensures ledger { Uses era.now 0 (place + length piece.now) (D.ledger disk.old) (D.ledger disk.new) }
+    ensures bound { IsTrue D.tells → place ≤ length (D.bytes disk.old)
+        → (D.ledger disk.new).written ≤ (D.ledger disk.old).written + length piece.now }
+    ensures cause { HasCause (D.ledger disk.old).faults (D.ledger disk.new).faults result }
+{
+    reach(disk, era, place)?;
+    disk.write_at(era, place, piece)
+}
+
+/// Takes the first free block to the end of the list.
+pub(crate) fn take_block(chains: &mut Chains, list: &mut BlockList) -> u32
+    requires own { IsListOf chains.old list.old }
+    requires some { 0 < length chains.old.free }
+    ensures takes { Takes chains.old chains.new list.old list.new (result ∷ []) }
+{
+    match chains.take_first(list) {
+        Some(block) => block,
+        None => unreachable!(),
+    }
+}
+
+/// Takes blocks for a piece of whole blocks and writes it, neighbouring blocks in one write.
+pub(crate) fn write_blocks<D: Disk>(
+    disk: &mut D,
+    era: &Era,
+    chains: &mut Chains,
+    list: &mut BlockList,
+    piece: &[u8],
+) -> Result<(), Failed>
+    requires era { MayUse era.now (D.ledger disk.old) }
+    requires own { IsListOf chains.old list.old }
+    requires whole { length piece.now % 4096 ≡ 0 }
+    requires room { length piece.now ≤ 4096 * length chains.old.free }
+    ensures put { OnOk result (PutsBlocks D.tells (D.bytes disk.old) (D.bytes disk.new)
+        chains.old chains.new list.old list.new piece.now) }
+    ensures crash { IsTrue D.tells → Leaves era.now.number
+        (Spares chains.old.free (length (D.bytes disk.old))) (D.image disk.old) (D.image disk.new) }
+    ensures ledger { Uses era.now 0 (length piece.now / 4096 * place_of chains.old.blocks) (D.ledger disk.old) (D.ledger disk.new) }
+    ensures bound { IsTrue D.tells → place_of chains.old.blocks ≤ length (D.bytes disk.old)
+        → (D.ledger disk.new).written ≤ (D.ledger disk.old).written + length piece.now }
+    ensures cause { HasCause (D.ledger disk.old).faults (D.ledger disk.new).faults result }
+{
+    if piece.is_empty() {
+        return Ok(());
+    }
+    let mut start = place_of(take_block(chains, list));
+    let mut from = 0;
+    let mut at = BLOCK_LEN;
+    while at < piece.len() {
+        let place = place_of(take_block(chains, list));
+        if place != start + (at - from) as u64 {
+            write_run(disk, era, start, &piece[from..at])?;
+            start = place;
+            from = at;
+        }
+        at += BLOCK_LEN;
+    }
+    write_run(disk, era, start, &piece[from..])
+}

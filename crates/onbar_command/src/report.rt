@@ -1,0 +1,63 @@
+// What a form did, and the text that tells it.
+ghost use Rattle.std.specs.Prelude.{◌≡◌, ◌++◌, ℕ, List, IfOk, string_bytes};
+ghost use Rattle.std.specs.List.{flat_map};
+ghost use Rattle.onbar_words.specs.SpaceHead.{spaces_of};
+ghost use Rattle.site_model.specs.Texts.{space_text};
+ghost use Rattle.onbar_command.specs.Forms.{text_told, status_told};
+
+use crate::extending::Extended;
+use crate::text::{counts_line, push_space_line, status_line};
+use site_headers::SpaceHead;
+use site_model::Status;
+use std::alloc::{AllocError, Global};
+
+/// What a form did that wasn't refused.
+#[derive(Debug, Drop)]
+pub enum Report {
+    /// A site of these spaces was formatted.
+    Formatted { spaces: Vec<SpaceHead> },
+    /// The log was extended by a script.
+    Extended(Extended),
+}
+
+/// A line for each space of a site that was formatted.
+fn space_lines(alloc: Global, spaces: &[SpaceHead]) -> Result<String, AllocError>
+    ensures { IfOk result (λ text. string_bytes text ≡ flat_map space_text (spaces_of spaces.now)) }
+{
+    let mut text = String::new(alloc);
+    for space in spaces {
+        push_space_line(alloc, &mut text, space)?;
+    }
+    Ok(text)
+}
+
+/// All that a command prints.
+pub fn told_text(alloc: Global, done: &Result<Report, Status>) -> Result<String, AllocError>
+    ensures { IfOk result (λ text. string_bytes text ≡ text_told done.now) }
+{
+    match done {
+        Ok(Report::Extended(told)) => {
+            let mut text = counts_line(alloc, told.counts.lines, told.counts.commits, told.end)?;
+            let last = status_line(alloc, &told.status)?;
+            text.push_str(&last)?;
+            Ok(text)
+        }
+        Ok(Report::Formatted { spaces }) => {
+            let mut text = space_lines(alloc, spaces)?;
+            let last = status_line(alloc, &Status::Ok)?;
+            text.push_str(&last)?;
+            Ok(text)
+        }
+        Err(status) => status_line(alloc, status),
+    }
+}
+
+pub fn told_status(done: Result<Report, Status>) -> Status
+    ensures { result ≡ status_told done }
+{
+    match done {
+        Ok(Report::Extended(told)) => told.status,
+        Ok(Report::Formatted { .. }) => Status::Ok,
+        Err(status) => status,
+    }
+}

@@ -1,0 +1,60 @@
+// Commands one after another.
+use crate::commands::{Ended, command};
+use crate::disks::Trouble;
+use std::alloc::{AllocError, Global};
+use std::thread::Threads;
+
+/// A command of at most 99 words, its script, and its text and status.
+#[derive(Clone, Copy)]
+pub struct Step<'a> {
+    pub words: &'a [&'a str],
+    pub script: &'a str,
+    pub text: &'a str,
+    pub status: &'a str,
+}
+
+/// Runs commands in order over disks that are blank at first, and answers those that they leave, or nothing where one of
+/// them ends otherwise.
+pub fn run_steps<R: Threads + Sync>(
+    rt: &R,
+    alloc: Global,
+    steps: &[Step],
+) -> Result<Option<Ended>, AllocError> {
+    let mut last = command(rt, alloc, &[], &[], &[], Trouble::Nothing, b"")?;
+    for step in steps {
+        if step.words.len() >= 100 {
+            return Ok(None);
+        }
+        let (cat, log) = (last.disks.cat.bytes(), last.disks.log.bytes());
+        let script = step.script.as_bytes();
+        let ended = command(rt, alloc, step.words, cat, log, Trouble::Nothing, script)?;
+        if !ended.is(step.text, step.status) {
+            return Ok(None);
+        }
+        last = ended;
+    }
+    Ok(Some(last))
+}
+
+pub const INIT: Step<'static> = Step {
+    words: &["-init", "A:4"],
+    script: "",
+    text: "space A pages 4\nok\n",
+    status: "Ok",
+};
+
+/// A transaction of three records.
+pub const WRITTEN: Step<'static> = Step {
+    words: &["-T"],
+    script: "begin 1\nwrite 1 A 0 0 41\ncommit 1\n",
+    text: "lines 3 commits 1 end 3\nok\n",
+    status: "Ok",
+};
+
+/// An empty script behind it.
+pub const NOTHING: Step<'static> = Step {
+    words: &["-T"],
+    script: "",
+    text: "lines 0 commits 0 end 3\nok\n",
+    status: "Ok",
+};

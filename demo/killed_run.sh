@@ -1,0 +1,106 @@
+#!/bin/sh
+# A sample site in a temporary folder: some transactions, a run that is killed in the middle of a long script, and what
+# stands of it.
+#
+#   demo/killed_run.sh [PROGRAM]      bin/onbar where no program is named
+#
+# SHOW_PAGES=yes shows a page before and behind the kill as well, by a program that has the form -D.
+set -eu
+
+top=$(cd "$(dirname "$0")/.." && pwd)
+program=${1:-$top/bin/onbar}
+onbar=$(cd "$(dirname "$program")" && pwd)/$(basename "$program")
+show_pages=${SHOW_PAGES:-no}
+
+site=$(mktemp -d)
+writer=
+runner=
+end() {
+    for job in $writer $runner; do
+        kill "$job" 2>/dev/null || true
+    done
+    rm -rf "$site"
+}
+trap end EXIT
+cd "$site"
+
+fail() {
+    echo "demo: $1" >&2
+    exit 1
+}
+
+# Runs a command and shows it with what it prints.
+run() {
+    echo "\$ onbar $*"
+    "$onbar" "$@"
+}
+
+# Page 0 of space A.
+show_page() {
+    if [ "$show_pages" = yes ]; then
+        run -D A 0
+    fi
+}
+
+# Transactions of three lines each: the number of the first, how many, and the byte that each writes on page 0 of A.
+transactions() {
+    awk -v first="$1" -v count="$2" -v byte="$3" 'BEGIN {
+        for (n = first; n < first + count; n++) {
+            printf "begin %d\nwrite %d A 0 0 %s\ncommit %d\n", n, n, byte, n
+        }
+    }'
+}
+
+# The position at which the log ends, from the counts that -T prints.
+end_of() {
+    sed -n 's/^lines .* end //p' "$1"
+}
+
+# Whether the log's record with this number is the last one of a batch that stands: its gate byte is 1.
+is_committed() {
+    [ "$(od -An -tu1 -j $((8192 + $1 - 1)) -N 1 log | tr -d ' ')" = 1 ]
+}
+
+echo "# A site of two spaces, and one transaction."
+run -init A:4 B:2
+transactions 1 1 41 >script
+run -T <script
+show_page
+
+echo
+echo "# A script of 4,000 transactions, killed once some of them stand."
+# The pipe stays open behind the script, so that the run can't end before it is killed.
+mkfifo pipe
+{ transactions 2 4000 42; exec sleep 600; } >pipe &
+writer=$!
+echo "\$ onbar -T <pipe &"
+"$onbar" -T <pipe &
+runner=$!
+until is_committed 600; do
+    kill -0 "$runner" 2>/dev/null || fail "the run ended before it was killed"
+    sleep 0.01
+done
+kill -KILL "$runner"
+wait "$runner" 2>/dev/null || true
+runner=
+kill "$writer" 2>/dev/null || true
+wait "$writer" 2>/dev/null || true
+writer=
+echo "killed"
+
+echo
+echo "# The log opens. Each transaction of the killed run stands whole or not at all."
+echo "\$ onbar -T </dev/null"
+"$onbar" -T </dev/null | tee found
+stands=$(end_of found)
+[ "$stands" -ge 600 ] || fail "a transaction that had been committed is gone"
+[ $((stands % 3)) -eq 0 ] || fail "a transaction stands in part"
+echo "# $((stands / 3)) transactions of three records each."
+show_page
+
+echo
+echo "# It takes further scripts."
+transactions 9001 2 43 >script
+run -T <script | tee more
+[ "$(end_of more)" -eq $((stands + 6)) ] || fail "the log doesn't go on where it ended"
+show_page
