@@ -3,14 +3,11 @@
 # stands of it.
 #
 #   demo/killed_run.sh [PROGRAM]      bin/onbar where no program is named
-#
-# SHOW_PAGES=yes shows a page before and behind the kill as well, by a program that has the form -D.
 set -eu
 
 top=$(cd "$(dirname "$0")/.." && pwd)
 program=${1:-$top/bin/onbar}
 onbar=$(cd "$(dirname "$program")" && pwd)/$(basename "$program")
-show_pages=${SHOW_PAGES:-no}
 
 site=$(mktemp -d)
 writer=
@@ -33,13 +30,6 @@ fail() {
 run() {
     echo "\$ onbar $*"
     "$onbar" "$@"
-}
-
-# Page 0 of space A.
-show_page() {
-    if [ "$show_pages" = yes ]; then
-        run -D A 0
-    fi
 }
 
 # Transactions of three lines each: the number of the first, how many, and the byte that each writes on page 0 of A.
@@ -65,7 +55,7 @@ echo "# A site of two spaces, and one transaction."
 run -init A:4 B:2
 transactions 1 1 41 >script
 run -T <script
-show_page
+run -D A 0
 
 echo
 echo "# A script of 4,000 transactions, killed once some of them stand."
@@ -96,11 +86,11 @@ stands=$(end_of found)
 [ "$stands" -ge 600 ] || fail "a transaction that had been committed is gone"
 [ $((stands % 3)) -eq 0 ] || fail "a transaction stands in part"
 echo "# $((stands / 3)) transactions of three records each."
-show_page
+run -D A 0
 
 echo
 echo "# It takes further scripts."
 transactions 9001 2 43 >script
 run -T <script | tee more
 [ "$(end_of more)" -eq $((stands + 6)) ] || fail "the log doesn't go on where it ended"
-show_page
+run -D A 0

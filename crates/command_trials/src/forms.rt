@@ -21,8 +21,9 @@ fn refused_words_touch_no_disk(rt: HostRuntime) -> Result<(), Fail> {
         (&["-r", "-t"], 1),
         (&["-init"], 2),
         (&["-init", "A:0"], 2),
-        (&["-D", "A"], 1),
-        (&["-j", "2", "-D", "A"], 3),
+        (&["-D"], 2),
+        (&["-j", "2", "-D", "A", "x"], 5),
+        (&["-D", "A", "4294967296"], 3),
     ] {
         assert!(rt; words.len() < 100);
         let trouble = Trouble::Stops(0, 0);

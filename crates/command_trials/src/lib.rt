@@ -5,3 +5,5 @@
 mod forms;
 #[cfg(test)]
 mod scripts;
+#[cfg(test)]
+mod shows;

@@ -3,6 +3,7 @@ use Rattle.std.specs.Prelude.{◌≡◌, ℕ, ◌+◌, ◌-◌, List, [], ◌∷
 use Rattle.std.specs.List.{flat_map}
 use Rattle.log_history.specs.History.{Patch, Entry, History, begin, write, commit, entry_at, positions}
 use Rattle.log_history.specs.Live.{live}
+use Rattle.log_history.specs.Transactions.{open_back}
 
 abbrev pub is_commit : Option Entry → Bool
 is_commit (Some (commit txn time)) = true
@@ -19,8 +20,9 @@ writes_back txn (begin other ∷ past) = if other == txn then [] else writes_bac
 writes_back txn (write other patch ∷ past) = writes_back txn past ++ (if other == txn then patch ∷ [] else [])
 writes_back txn (entry ∷ past) = writes_back txn past
 
+-- the Writes that a Commit brings into effect: those of its transaction since its Begin, none where it isn't open
 abbrev pub writes_of : Option Entry → List Entry → List Patch
-writes_of (Some (commit txn time)) past = writes_back txn past
+writes_of (Some (commit txn time)) past = if open_back txn past then writes_back txn past else []
 writes_of entry past = []
 
 -- the Writes that the Commit at x brings into effect; none where no Commit stands at x

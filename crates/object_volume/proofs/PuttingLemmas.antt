@@ -22,7 +22,7 @@ use Rattle.object_volume.specs.Taking.{Takes, PutsBlocks}
 
 -- blocks were taken for the front of a piece; those of it were written but for the last run, whose blocks are neighbours
 pub record Putting {D : Type 0} (tells : Bool) (bytes : D → List ℕ) (image : D → ℕ → List ℕ → Type 0) (ledger : D → Ledger) (era : EraView)
-    (piece : List ℕ) (old now : Table) (before after : BlockList) (start from at : ℕ) (was is : D) : Type 0 where
+    (piece : List ℕ) (old now : Table) (before after : BlockList) (start from at reached : ℕ) (was is : D) : Type 0 where
   pub done : List ℕ
   pub run : List ℕ
   pub takes : Takes old now before after (done ++ run)
@@ -37,6 +37,7 @@ pub record Putting {D : Type 0} (tells : Bool) (bytes : D → List ℕ) (image :
   pub spared : IsTrue tells → Spares done (length (bytes was)) (bytes was) (bytes is)
   pub crash : IsTrue tells → Leaves era.number (Spares old.free (length (bytes was))) (image was) (image is)
   pub uses : Uses era 0 (length done * place_of old.blocks) (ledger was) (ledger is)
+  pub reaches : IsTrue tells → reached ≤ length (bytes is)
   pub bound : IsTrue tells → place_of old.blocks ≤ length (bytes was) → (ledger is).written ≤ (ledger was).written + from
 
 -- so many writes and one more, each of at most so many bytes
@@ -119,7 +120,7 @@ crash_more e limit longer start n own was is new le spares first second =
     (from.0, from.1, spares_again own limit from.0 d b from.2 (spares_less own own longer limit d b (λ block some. some) le (spares d b outside))))
 
 module _ {D : Type 0} {tells : Bool} {bytes : D → List ℕ} {image : D → ℕ → List ℕ → Type 0} {ledger : D → Ledger} {era : EraView} {piece : List ℕ} {old now : Table} {before after : BlockList}
-    {start from at : ℕ} {was is : D} (so_far : Putting tells bytes image ledger era piece old now before after start from at was is) (new : D) (slice : List ℕ)
+    {start from at reached : ℕ} {was is : D} (so_far : Putting tells bytes image ledger era piece old now before after start from at reached was is) (new : D) (slice : List ℕ)
     (cut : slice ≡ take (at - from) (drop from piece)) where
   -- the pending run is written, or its write fails
   pub flushed_crash : IsTrue tells → (IsTrue tells → Leaves era.number (Outside start (length slice) (length (bytes is))) (image is) (image new))
@@ -162,12 +163,13 @@ module _ {D : Type 0} {tells : Bool} {bytes : D → List ℕ} {image : D → ℕ
 
 -- the same at the places where two branches meet
 pub putting_at : {D : Type 0} {tells : Bool} {bytes : D → List ℕ} {image : D → ℕ → List ℕ → Type 0} {ledger : D → Ledger} {era : EraView} {piece : List ℕ} {old now : Table} {before after : BlockList}
-    {start from at : ℕ} {was is : D} (start' from' : ℕ) (is' : D) → start' ≡ start → from' ≡ from → is' ≡ is
-    → Putting tells bytes image ledger era piece old now before after start from at was is → Putting tells bytes image ledger era piece old now before after start' from' at was is'
-putting_at {tells = tells} {bytes = bytes} {image = image} {ledger = ledger} {era = era} {piece = piece} {old = old} {now = now} {before = before} {after = after} {start = start} {from = from} {at = at} {was = was} {is = is} start' from' is' e f d p =
-    subst (λ s. Putting tells bytes image ledger era piece old now before after s from' at was is') (sym e)
-    (subst (λ k. Putting tells bytes image ledger era piece old now before after start k at was is') (sym f)
-    (subst (λ x. Putting tells bytes image ledger era piece old now before after start from at was x) (sym d) p))
+    {start from at reached : ℕ} {was is : D} (start' from' reached' : ℕ) (is' : D) → start' ≡ start → from' ≡ from → reached' ≡ reached → is' ≡ is
+    → Putting tells bytes image ledger era piece old now before after start from at reached was is → Putting tells bytes image ledger era piece old now before after start' from' at reached' was is'
+putting_at {tells = tells} {bytes = bytes} {image = image} {ledger = ledger} {era = era} {piece = piece} {old = old} {now = now} {before = before} {after = after} {start = start} {from = from} {at = at} {reached = reached} {was = was} {is = is} start' from' reached' is' e f r d p =
+    subst (λ s. Putting tells bytes image ledger era piece old now before after s from' at reached' was is') (sym e)
+    (subst (λ k. Putting tells bytes image ledger era piece old now before after start k at reached' was is') (sym f)
+    (subst (λ k. Putting tells bytes image ledger era piece old now before after start from at k was is') (sym r)
+    (subst (λ x. Putting tells bytes image ledger era piece old now before after start from at reached was x) (sym d) p)))
 
 -- all of the piece was put where the last write went well
 pub put_all : {T E : Type 0} (result : Result T E) (tells : Bool) {was is : List ℕ} {old new : Table} {before after : BlockList} {piece now : List ℕ} (taken : List ℕ) → Takes old new before after taken

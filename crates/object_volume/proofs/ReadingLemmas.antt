@@ -1,9 +1,10 @@
 -- Reads into a place of a buffer, and of the runs of an object.
 use Rattle.std.proofs.Common.{◌≡◌, ℕ, zero, suc, ◌+◌, ◌-◌, ◌*◌, ◌<◌, ◌≤◌, ◌⊎◌, min, Bool, IsTrue, List, [], ◌∷◌, ◌++◌, length, take, drop, refl, arith, ap, sym, ◌∙◌, ⊎_elim, get_or}
 use Rattle.std.specs.Prelude.{Result, Ok, Err, IfOk}
-use Rattle.std.proofs.lemmas.List.{append-nil, take-append-le, take_at, drop_at, take_all, drop_all, length-take-le}
+use Rattle.std.proofs.lemmas.List.{append-nil, take-append-le, take-append-drop, take_at, drop_at, take_all, drop_all, length-take-le}
 use Rattle.std.proofs.lemmas.Bool.{cases_lt}
 use Rattle.std.proofs.Math.Seq.{take-add, drop-cons}
+use lib.Seq.{drop-drop}
 use borrow.Rule.Slice.PartMut.{put_mid, post_of}
 use Rattle.site_disk.specs.Bytes.{extent}
 use Rattle.site_disk.specs.Images.{Unchanged}
@@ -44,10 +45,11 @@ read_front (Err e) at k n len place xs ys file within same long bound count foun
 
 -- so many bytes of an object were read, and the others begin at some byte of the runs that are left
 pub record Reading {D : Type 0} (tells : Bool) (bytes : D → List ℕ) (image : D → ℕ → List ℕ → Type 0) (ledger : D → Ledger) (era : EraView)
-    (runs : List Run) (size at wanted index skip done len : ℕ) (into : List ℕ) (old new : D) : Type 0 where
+    (runs : List Run) (size at wanted index skip done len : ℕ) (before into : List ℕ) (old new : D) : Type 0 where
   pub within : done ≤ wanted
   pub least : wanted ≡ min (size - at) len
   pub room : len ≡ length into
+  pub rest : drop done into ≡ drop done before
   pub stands : IsTrue tells → object_part runs size at len (bytes old)
       ≡ take done into ++ bytes_at (bytes old) (take (wanted - done) (drop skip (places (blocks_of_runs (drop index runs)))))
   pub content : bytes new ≡ bytes old
@@ -116,6 +118,36 @@ drop-append (suc k) [] ys =
 drop-append (suc k) (x ∷ xs) ys =
     let less : k - length xs ≡ suc k - suc (length xs) = omega arith in
     drop-append k xs ys ∙ ap (λ (j : ℕ). drop k xs ++ drop j ys) less
+
+-- what stands behind both of two lists that are as long and agree from some place on
+drop-swap : (n : ℕ) (xs ys zs : List ℕ) → length xs ≡ length ys → drop n xs ≡ drop n ys → drop n (xs ++ zs) ≡ drop n (ys ++ zs)
+drop-swap n xs ys zs long same =
+    drop-append n xs zs
+    ∙ ap (λ (l : List ℕ). l ++ drop (n - length xs) zs) same
+    ∙ ap (λ (k : ℕ). drop n ys ++ drop (n - k) zs) long
+    ∙ sym (drop-append n ys zs)
+
+-- the back of a buffer after a part of it was written over that kept its own back
+pub drop-put : (at k n : ℕ) (xs ys : List ℕ) → at ≤ length xs → length ys ≡ length (take k (drop at xs)) → drop n ys ≡ drop n (take k (drop at xs))
+    → drop (at + n) (put_mid at k xs ys) ≡ drop (at + n) xs
+drop-put at k n xs ys within long same =
+    sym (drop-drop n at (put_mid at k xs ys))
+    ∙ ap (drop n) (drop_at (take at xs) (ys ++ post_of at k xs) at (length-take-le at xs within))
+    ∙ drop-swap n ys (take k (drop at xs)) (post_of at k xs) long same
+    ∙ ap (drop n) (take-append-drop k (drop at xs))
+    ∙ drop-drop n at xs
+
+-- what a read into a place of a buffer leaves behind
+pub read_rest : (read : Result ℕ Failed) (at k : ℕ) (xs ys : List ℕ) → at ≤ length xs → length ys ≡ length (take k (drop at xs))
+    → IfOk read (λ got. drop got ys ≡ drop got (take k (drop at xs))) → IfOk read (λ got. drop (at + got) (put_mid at k xs ys) ≡ drop (at + got) xs)
+read_rest (Ok got) at k xs ys within long rest = drop-put at k got xs ys within long rest
+read_rest (Err e) at k xs ys within long rest = tt
+
+-- a buffer whose back is kept by one more read
+pub kept_behind : (done got : ℕ) (new old before : List ℕ) → drop (done + got) new ≡ drop (done + got) old → drop done old ≡ drop done before
+    → drop (done + got) new ≡ drop (done + got) before
+kept_behind done got new old before same kept =
+    same ∙ sym (drop-drop got done old) ∙ ap (drop got) kept ∙ drop-drop got done before
 
 -- the places of the runs that are left begin with those of the next run
 pub run_places : (runs : List Run) (index place count : ℕ) (default : Run) → index < length runs

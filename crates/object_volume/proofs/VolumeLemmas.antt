@@ -56,6 +56,7 @@ module _ (old new : Table) (own : List ℕ) (others : KeepsOthers old new own) w
         };
         hashed = sent.hashed;
         size = sent.size;
+        reached = sent.reached;
       }
 
 -- a live object where an object that is being sent grows

@@ -1,5 +1,5 @@
 -- An object that is being sent: its whole blocks are on the volume, and the bytes behind them in a buffer. No public clause names these parts.
-use Rattle.std.specs.Prelude.{◌≡◌, ℕ, ◌+◌, ◌*◌, ◌<◌, Bool, IsTrue, List, [], ◌∷◌, ◌++◌, length, take}
+use Rattle.std.specs.Prelude.{◌≡◌, ℕ, ◌+◌, ◌*◌, ◌<◌, ◌≤◌, Bool, IsTrue, List, [], ◌∷◌, ◌++◌, length, take}
 use Rattle.block_chain.specs.Table.{Table, blocks_of, IsListOf}
 use Rattle.block_chain.specs.declared.lists.BlockList.{BlockList}
 use Rattle.sha2.specs.Hashers.{Holds256}
@@ -30,6 +30,7 @@ pub record IsSent (tells : Bool) (file : List ℕ) (table : Table) (object : Sen
   pub stored : Stored tells file table object.list object.last part message
   pub hashed : Holds256 object.hasher message
   pub size : object.size ≡ length message
+  pub reached : IsTrue tells → object.reached ≤ length file
 
 -- the bytes behind whole blocks stand in the block of their part, and other bytes stay
 pub record Finished (last : ℕ) (piece was is : List ℕ) : Type 0 where

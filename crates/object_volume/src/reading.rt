@@ -34,6 +34,7 @@ fn read_piece<D: Disk>(
     ensures count { IsTrue D.tells → IfOk result (λ got. got ≡ length (extent place n (D.bytes disk.old))) }
     ensures found { IsTrue D.tells → IfOk result (λ got.
         take (at + got) into.new ≡ take at into.old ++ extent place n (D.bytes disk.old)) }
+    ensures rest { IfOk result (λ got. drop (at + got) into.new ≡ drop (at + got) into.old) }
     ensures bytes { OnOk result (D.bytes disk.new ≡ D.bytes disk.old) }
     ensures images { OnOk result (Unchanged (D.image disk.old) (D.image disk.new)) }
     ensures crash { Leaves era.now.number Same (D.image disk.old) (D.image disk.new) }
@@ -59,6 +60,7 @@ pub(crate) fn read_object<D: Disk>(
         n ≡ length (object_part runs.now size at (length into.old) (D.bytes disk.old))) }
     ensures found { IsTrue D.tells → IfOk result (λ n.
         take n into.new ≡ object_part runs.now size at (length into.old) (D.bytes disk.old)) }
+    ensures rest { IfOk result (λ n. drop n into.new ≡ drop n into.old) }
     ensures bytes { OnOk result (D.bytes disk.new ≡ D.bytes disk.old) }
     ensures images { OnOk result (Unchanged (D.image disk.old) (D.image disk.new)) }
     ensures crash { Leaves era.now.number Same (D.image disk.old) (D.image disk.new) }

@@ -16,13 +16,15 @@ use block_chain::{BlockList, Chains};
 use sha2::{Digest, Sha256};
 use site_disk::{Disk, Era, Failed};
 
-/// The blocks of an object that is being sent, the last of them, its bytes so far and their digest.
+/// The blocks of an object that is being sent, the last of them, its bytes so far and their digest, and a place that the
+/// volume is known to reach.
 #[derive(Drop)]
 pub(crate) struct Sending {
     pub(crate) list: BlockList,
     pub(crate) last: u32,
     pub(crate) size: u64,
     pub(crate) hasher: Sha256,
+    pub(crate) reached: u64,
 }
 
 impl Sending {
@@ -36,6 +38,7 @@ impl Sending {
             last: 0,
             size: 0,
             hasher: Sha256::new(),
+            reached: 0,
         }
     }
 }
@@ -48,10 +51,13 @@ fn fill_part<D: Disk>(
     part: &mut [u8],
     filled: usize,
     bytes: &[u8],
+    reached: &mut u64,
 ) -> Result<usize, Failed>
     requires era { MayUse era.now (D.ledger disk.old) }
+    requires reached { IsTrue D.tells → reached.old ≤ length (D.bytes disk.old) }
     requires part { length part.old ≡ 4096 }
     requires filled { filled < 4096 }
+    ensures reached { IsTrue D.tells → OnOk result (reached.new ≤ length (D.bytes disk.new)) }
     ensures taken { IfOk result (λ n. n ≤ length bytes.now) }
     ensures within { IfOk result (λ n. filled + n ≤ 4096) }
     ensures none { filled ≡ 0 → IfOk result (λ n. n ≡ 0) }
@@ -77,7 +83,7 @@ fn fill_part<D: Disk>(
     let n = (BLOCK_LEN - filled).min(bytes.len());
     part[filled..filled + n].copy_from_slice(&bytes[..n]);
     if filled + n == BLOCK_LEN {
-        write_run(disk, era, place_of(last), part)?;
+        write_run(disk, era, place_of(last), part, reached)?;
     }
     Ok(n)
 }
@@ -119,6 +125,8 @@ fn put_rest<D: Disk>(
     requires own { IsListOf chains.old object.old.list }
     requires part { length part.old ≡ 4096 }
     requires room { length bytes.now ≤ 4096 * length chains.old.free }
+    requires reached { IsTrue D.tells → object.old.reached ≤ length (D.bytes disk.old) }
+    ensures reached { IsTrue D.tells → OnOk result (object.new.reached ≤ length (D.bytes disk.new)) }
     ensures same { OnOk result ((object.new.size ≡ object.old.size) × (object.new.hasher ≡ object.old.hasher)) }
     ensures taken { OnOk result (TakesFor chains.old chains.new object.old.list object.new.list (blocks_for (length bytes.now))) }
     ensures stored { (message : List ℕ) → (length message % 4096 ≡ 0) ⊎ (length bytes.now ≡ 0)
@@ -134,7 +142,14 @@ fn put_rest<D: Disk>(
     ensures cause { HasCause (D.ledger disk.old).faults (D.ledger disk.new).faults result }
 {
     let whole = bytes.len() - bytes.len() % BLOCK_LEN;
-    write_blocks(disk, era, chains, &mut object.list, &bytes[..whole])?;
+    write_blocks(
+        disk,
+        era,
+        chains,
+        &mut object.list,
+        &bytes[..whole],
+        &mut object.reached,
+    )?;
     keep_part(
         chains,
         &mut object.list,
@@ -181,7 +196,15 @@ pub(crate) fn send_piece<D: Disk>(
         return Err(SendFault::StoreFull);
     }
     let filled = (object.size % 4096) as usize;
-    let n = fill_part(disk, era, object.last, part, filled, bytes)?;
+    let n = fill_part(
+        disk,
+        era,
+        object.last,
+        part,
+        filled,
+        bytes,
+        &mut object.reached,
+    )?;
     put_rest(disk, era, chains, object, part, &bytes[n..])?;
     object.hasher.update(bytes);
     object.size += bytes.len() as u64;
@@ -201,7 +224,7 @@ fn write_part<D: Disk>(disk: &mut D, era: &Era, last: u32, piece: &[u8]) -> Resu
     if piece.is_empty() {
         return Ok(());
     }
-    write_run(disk, era, place_of(last), piece)
+    write_run(disk, era, place_of(last), piece, &mut 0)
 }
 
 /// Writes the last bytes of an object and syncs.

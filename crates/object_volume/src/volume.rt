@@ -1,5 +1,5 @@
 //! A volume of objects.
-ghost use Rattle.std.specs.Prelude.{◌≡◌, ◌≢◌, ◌+◌, ◌-◌, ◌*◌, ◌/◌, ◌%◌, ◌<◌, ◌≤◌, ◌↔◌, ◌==◌, ◌⊎◌, ℕ, List, [], ◌∷◌, ◌++◌, length, take, filter, min, All, IsTrue, Some, IfSome, IfOk, IfErr, OnOk, IsErrOf};
+ghost use Rattle.std.specs.Prelude.{◌≡◌, ◌≢◌, ◌+◌, ◌-◌, ◌*◌, ◌/◌, ◌%◌, ◌<◌, ◌≤◌, ◌↔◌, ◌==◌, ◌⊎◌, ℕ, List, [], ◌∷◌, ◌++◌, length, take, drop, filter, min, All, IsTrue, Some, IfSome, IfOk, IfErr, OnOk, IsErrOf};
 ghost use Rattle.site_disk.specs.Bytes.{written, Same};
 ghost use Rattle.site_disk.specs.Causes.{Rose, HasCause};
 ghost use Rattle.site_disk.specs.Images.{Leaves, OnlyAfter, Unchanged};
@@ -361,6 +361,7 @@ impl<D: Disk> Volume<D> {
             n ≡ length (object_part runs.now size at (length into.old) (D.bytes (disk_of self.old)))) }
         ensures found { IsTrue D.tells → IfOk result (λ n.
             take n into.new ≡ object_part runs.now size at (length into.old) (D.bytes (disk_of self.old))) }
+        ensures rest { IfOk result (λ n. drop n into.new ≡ drop n into.old) }
 
         ensures volume { self.new ≡ with_disk self.old (disk_of self.new) }
         ensures bytes { OnOk result (D.bytes (disk_of self.new) ≡ D.bytes (disk_of self.old)) }

@@ -1,6 +1,6 @@
 //! Writes of whole blocks.
-ghost use Rattle.std.specs.Prelude.{◌≡◌, ◌+◌, ◌-◌, ◌*◌, ◌/◌, ◌%◌, ◌<◌, ◌≤◌, ◌^◌, ◌++◌, [], ◌∷◌, length, IsTrue, OnOk};
-ghost use Rattle.site_disk.specs.Bytes.{filled, written};
+ghost use Rattle.std.specs.Prelude.{◌≡◌, ◌+◌, ◌-◌, ◌*◌, ◌/◌, ◌%◌, ◌<◌, ◌≤◌, ◌^◌, ◌++◌, [], ◌∷◌, length, min, IsTrue, OnOk};
+ghost use Rattle.site_disk.specs.Bytes.{filled, written, Torn};
 ghost use Rattle.site_disk.specs.Causes.{HasCause};
 ghost use Rattle.site_disk.specs.Images.{Leaves};
 ghost use Rattle.site_disk.specs.Ledger.{MayUse, Uses};
@@ -12,14 +12,37 @@ use crate::reading::{BLOCK_LEN, place_of};
 use block_chain::{BlockList, Chains};
 use site_disk::{Disk, Era, Failed, reach};
 
-/// Writes a piece at a place, after zero bytes up to it where the volume ends before it.
+// Fills with zero bytes up to a place. The disk is asked for its length only where it isn't known to reach the place.
+fn reach_from<D: Disk>(disk: &mut D, era: &Era, reached: u64, place: u64) -> Result<(), Failed>
+    requires era { MayUse era.now (D.ledger disk.old) }
+    requires reached { IsTrue D.tells → reached ≤ length (D.bytes disk.old) }
+    ensures filled { IsTrue D.tells → OnOk result (D.bytes disk.new ≡ filled place (D.bytes disk.old)) }
+    ensures reaches { IsTrue D.tells → OnOk result (place ≤ length (D.bytes disk.new)) }
+    ensures crash { IsTrue D.tells → let first = min place (length (D.bytes disk.old)) in
+        Leaves era.now.number (Torn first (place - first)) (D.image disk.old) (D.image disk.new) }
+    ensures nothing { IsTrue D.tells → place ≤ length (D.bytes disk.old)
+        → Uses era.now 0 0 (D.ledger disk.old) (D.ledger disk.new) }
+    ensures ledger { Uses era.now 0 place (D.ledger disk.old) (D.ledger disk.new) }
+    ensures cause { HasCause (D.ledger disk.old).faults (D.ledger disk.new).faults result }
+{
+    if place <= reached {
+        return Ok(());
+    }
+    reach(disk, era, place)
+}
+
+/// Writes a piece at a place, after zero bytes up to it where the volume ends before it. `reached` is a place that the
+/// volume is known to reach.
 pub(crate) fn write_run<D: Disk>(
     disk: &mut D,
     era: &Era,
     place: u64,
     piece: &[u8],
+    reached: &mut u64,
 ) -> Result<(), Failed>
     requires era { MayUse era.now (D.ledger disk.old) }
+    requires reached { IsTrue D.tells → reached.old ≤ length (D.bytes disk.old) }
+    ensures reached { IsTrue D.tells → OnOk result (reached.new ≤ length (D.bytes disk.new)) }
     ensures bytes { IsTrue D.tells
         → OnOk result (D.bytes disk.new ≡ written place piece.now (filled place (D.bytes disk.old))) }
     ensures crash { IsTrue D.tells → Leaves era.now.number
@@ -29,7 +52,8 @@ pub(crate) fn write_run<D: Disk>(
         → (D.ledger disk.new).written ≤ (D.ledger disk.old).written + length piece.now }
     ensures cause { HasCause (D.ledger disk.old).faults (D.ledger disk.new).faults result }
 {
-    reach(disk, era, place)?;
+    reach_from(disk, era, *reached, place)?;
+    *reached = (*reached).max(place.saturating_add(piece.len() as u64));
     disk.write_at(era, place, piece)
 }
 
@@ -52,11 +76,14 @@ pub(crate) fn write_blocks<D: Disk>(
     chains: &mut Chains,
     list: &mut BlockList,
     piece: &[u8],
+    reached: &mut u64,
 ) -> Result<(), Failed>
     requires era { MayUse era.now (D.ledger disk.old) }
+    requires reached { IsTrue D.tells → reached.old ≤ length (D.bytes disk.old) }
     requires own { IsListOf chains.old list.old }
     requires whole { length piece.now % 4096 ≡ 0 }
     requires room { length piece.now ≤ 4096 * length chains.old.free }
+    ensures reached { IsTrue D.tells → OnOk result (reached.new ≤ length (D.bytes disk.new)) }
     ensures put { OnOk result (PutsBlocks D.tells (D.bytes disk.old) (D.bytes disk.new)
         chains.old chains.new list.old list.new piece.now) }
     ensures crash { IsTrue D.tells → Leaves era.now.number
@@ -75,11 +102,11 @@ pub(crate) fn write_blocks<D: Disk>(
     while at < piece.len() {
         let place = place_of(take_block(chains, list));
         if place != start + (at - from) as u64 {
-            write_run(disk, era, start, &piece[from..at])?;
+            write_run(disk, era, start, &piece[from..at], reached)?;
             start = place;
             from = at;
         }
         at += BLOCK_LEN;
     }
-    write_run(disk, era, start, &piece[from..])
+    write_run(disk, era, start, &piece[from..], reached)
 }

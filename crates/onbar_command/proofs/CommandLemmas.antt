@@ -4,7 +4,7 @@ use Rattle.std.proofs.Common.{◌≡◌, ◌⊎◌, ⊎_elim, Bool, inl, inr, �
 use Rattle.std.proofs.lemmas.List.{take-append-drop, append-nil, length-take-le}
 use Rattle.site_model.specs.declared.disk_name.DiskName.{DiskName}
 use Rattle.site_model.specs.declared.status.Status.{Status}
-use Rattle.site_model.specs.declared.status.Status.TheVariants.{OutOfMemory, ReadFault, WriteFault, DiskFault, Usage, NotFormatted, AlreadyFormatted, BadRecord, LogLost}
+use Rattle.site_model.specs.declared.status.Status.TheVariants.{OutOfMemory, ReadFault, WriteFault, DiskFault, Usage, NotFormatted, AlreadyFormatted, BadRecord, NoSuchSpace, NoSuchPage, LogLost}
 use Rattle.site_model.specs.Commands.{CutsShort, Did, Printed, IsFront}
 use Rattle.site_model.specs.Openings.{IsOfDisks, IsRefused, IsUsage, OpensFor}
 use Rattle.site_model.specs.OpeningLaws.{one_refusal, opens_unrefused, usage_unrefused}
@@ -14,7 +14,7 @@ use Rattle.site_model.specs.Steps.{ImagesOf, Frame}
 use Rattle.site_model.specs.Texts.{status_text}
 use Rattle.site_model.specs.Worlds.{World}
 use Rattle.onbar_command.specs.declared.report.Report.{Report}
-use Rattle.onbar_command.specs.declared.report.Report.TheVariants.{Formatted, Extended as LogExtended}
+use Rattle.onbar_command.specs.declared.report.Report.TheVariants.{Formatted, Extended as LogExtended, Shown as PagesShown}
 use Rattle.onbar_command.specs.Forms.{IsDone, Finishes, IsNoStop, status_told, text_told}
 use Rattle.onbar_command.specs.Printing.{TakesFront}
 
@@ -34,8 +34,11 @@ of_disks (Ok (LogExtended told)) no_stop is = absurd (not_both told.status no_st
     not_both AlreadyFormatted ends of = ends
     not_both LogLost ends of = ends
     not_both (BadRecord disk slot) ends of = ends
+    not_both (NoSuchSpace name) ends of = ends
+    not_both (NoSuchPage n) ends of = ends
     not_both status ends of = of
 of_disks (Ok (Formatted spaces)) no_stop is = absurd is
+of_disks (Ok (PagesShown shown)) no_stop is = absurd is
 of_disks (Err status) no_stop is = (status, refl, is)
 
 not_cut_of_disks : (status : Status) → IsOfDisks status → CutsShort status → ⊥
@@ -80,6 +83,7 @@ pub usage_told : (result : Result Report Status) (before now : List ℕ) → IfO
     → status_told result ≡ Usage n → now ≡ before ++ status_text (Usage n)
 usage_told (Ok (LogExtended told)) before now no_stop text n is = absurd (subst EndsScript is no_stop)
 usage_told (Ok (Formatted spaces)) before now no_stop text n is = absurd (cc is)
+usage_told (Ok (PagesShown shown)) before now no_stop text n is = absurd (cc is)
 usage_told (Err status) before now no_stop text n is = text ∙ ap (λ (s : Status). before ++ status_text s) is
 
 module _ (reads : Bool) (run : Run) (after : List ℕ) (contents : DiskName → List ℕ) (era : ℕ) (frame : (World → Type 0) → Frame World) (new : ImagesOf) where
@@ -142,6 +146,7 @@ module _ (reads : Bool) (run : Run) (after : List ℕ) (contents : DiskName → 
       → now ≡ before ++ text_told result → Printed run before now era frame new
   printed_none (Ok (LogExtended told)) before now no_stop cut text = absurd (ends_uncut told.status no_stop cut)
   printed_none (Ok (Formatted spaces)) before now no_stop cut text = absurd cut
+  printed_none (Ok (PagesShown shown)) before now no_stop cut text = absurd cut
   printed_none (Err status) before now no_stop cut text =
       record { printed = []; text = text ∙ ap (λ (t : List ℕ). before ++ t) (no_text status cut); after_work = inl refl }
 
@@ -158,4 +163,5 @@ complete_so status said whole read write disk = inl (whole (λ cut. cut))
 pub is_err : (result : Result Report Status) (status : Status) → IfOk result IsNoStop → CutsShort status → status_told result ≡ status → result ≡ Err status
 is_err (Ok (LogExtended told)) status no_stop cut is = absurd (ends_uncut told.status no_stop (subst CutsShort (sym is) cut))
 is_err (Ok (Formatted spaces)) status no_stop cut is = absurd (subst CutsShort (sym is) cut)
+is_err (Ok (PagesShown shown)) status no_stop cut is = absurd (subst CutsShort (sym is) cut)
 is_err (Err found) status no_stop cut is = ap Err is

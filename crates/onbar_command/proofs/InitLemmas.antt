@@ -1,13 +1,11 @@
 -- A site is formatted by a command.
-use Rattle.std.proofs.Common.{◌≡◌, ◌⊎◌, inl, inr, ℕ, ◌+◌, ◌<◌, ◌≤◌, List, [], ◌∷◌, Option, None, Some, Bool, true, false, Ok, refl, subst, arith, ⊎_elim}
+use Rattle.std.proofs.Common.{◌≡◌, ◌⊎◌, inl, inr, ℕ, ◌+◌, ◌<◌, ◌≤◌, List, [], ◌∷◌, Option, None, Some, true, false, refl, arith, ⊎_elim}
 use Rattle.std.specs.Option.{is_some}
-use Rattle.site_headers.specs.declared.heads.SpaceHead.{SpaceHead}
-use Rattle.onbar_grammar.specs.Script.{Space}
 use Rattle.site_model.specs.declared.disk_name.DiskName.{DiskName}
 use Rattle.site_model.specs.declared.disk_name.DiskName.TheVariants.{Cat, Spare, Boot, Log, Volume, Chunk}
 use Rattle.site_model.specs.Commands.{IsAmong, frame_of}
-use Rattle.site_model.specs.Layouts.{Shows, StandFor}
-use Rattle.site_model.specs.Steps.{Passes, StandsAmong}
+use Rattle.site_model.specs.Layouts.{StandFor}
+use Rattle.site_model.specs.Steps.{Passes}
 use Rattle.site_model.specs.Worlds.{World, unformatted}
 use Rattle.onbar_command.specs.declared.site.SiteDisks.{SiteDisks}
 use Rattle.onbar_command.specs.Disks.{images_of}

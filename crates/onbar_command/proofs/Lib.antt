@@ -10,6 +10,8 @@ mod ListLemmas
 mod OpeningLemmas
 mod ReadingLemmas
 mod ReplayLemmas
+mod ShowingLemmas
 mod SiteLemmas
 mod TurnLemmas
+mod ViewLemmas
 mod WordsLemmas

@@ -1,18 +1,18 @@
 -- Runs of slots, and what the slots in use come to.
-use Rattle.std.proofs.Common.{◌≡◌, ◌⊎◌, ℕ, ◌+◌, ◌-◌, ◌*◌, ◌/◌, ◌<◌, ◌≤◌, List, [], ◌++◌, length, reverse, take, drop, Option, None, Some, Result, Ok, Err, sym, ◌∙◌, ap, subst, arith, append_assoc, length-append, length-take, length-drop, inl, inr, refl, ⊎_elim}
-use Rattle.std.specs.List.{AllByRecursion, flat_map}
+use Rattle.std.proofs.Common.{◌≡◌, ◌⊎◌, ℕ, ◌+◌, ◌*◌, ◌<◌, ◌≤◌, List, [], ◌++◌, length, take, drop, None, Some, Result, Ok, Err, sym, ◌∙◌, ap, subst, arith, length-append, length-take, length-drop, inl, inr, refl, ⊎_elim}
+use Rattle.std.specs.List.{flat_map}
 use Rattle.std.specs.Prelude.{Bool, nat_lt, if◌then◌else◌, IfOk, OnOk, IfErr}
 use Rattle.std.proofs.lemmas.Bool.{cases_lt, lt-ltb, le-ltb}
 use Rattle.std.proofs.lemmas.List.{take_at, drop_at, drop-drop}
 use Rattle.std.proofs.lemmas.List.Concat.{flat_map-append}
-use Rattle.log_history.specs.History.{Entry, History}
+use Rattle.log_history.specs.History.{History}
 use Rattle.log_record.specs.Layout.{IsRecord, spelling}
 use Rattle.log_record.specs.LayoutLaws.{length-spelling}
 use Rattle.gated_slots.specs.Slots.{Area, SlotsView, used, place_of}
 use Rattle.site_disk.specs.Bytes.{extent}
 use Rattle.site_disk.specs.BytesLaws.{extent-extent}
 use Rattle.site_model.specs.Layouts.{HoldsLog, log_area}
-use Rattle.site_model.specs.Openings.{GoesBack, AllGoBack, CanOpen, Reads, IsBadSlot, IsStraySlot, IsBadPlace, LogRefuses, first_stray}
+use Rattle.site_model.specs.Openings.{CanOpen, Reads, IsBadPlace, LogRefuses}
 use Rattle.site_model.specs.OpeningLaws.{reads_holds}
 use Rattle.site_model.specs.Worlds.{Site}
 use Rattle.site_headers.specs.Headers.{HasHeader, log_tail}

@@ -1,5 +1,7 @@
 -- The log's records are read a run of slots at a time.
-use Rattle.std.proofs.Common.{◌≡◌, ℕ, ◌+◌, ◌*◌, ◌≤◌, ◌^◌, List, length, Bool, IsTrue, ◌∙◌, refl, arith}
+use Rattle.std.proofs.Common.{◌≡◌, ℕ, ◌+◌, ◌*◌, ◌≤◌, ◌^◌, List, [], length, Bool, IsTrue, sym, ◌∙◌, subst, refl, arith}
+use Rattle.std.specs.List.{AllByRecursion}
+use Rattle.log_history.specs.Transactions.{Table}
 use Rattle.site_disk.specs.Bytes.{Same}
 use Rattle.site_disk.specs.Images.{Leaves, Unchanged}
 use Rattle.site_disk.specs.CallsLaws.{uses_nothing}
@@ -7,11 +9,15 @@ use Rattle.site_disk.specs.ImagesLaws.{begins, goes_on}
 use Rattle.site_disk.specs.Ledger.{EraView, Ledger, MayUse, Uses}
 use Rattle.onbar_command.specs.declared.replay.LogState.{LogState}
 use Rattle.onbar_command.specs.Openings.{ReadsTo}
+use Rattle.onbar_command.specs.Replays.{IsSameViews, IsStateOf, LiesWithin}
+use Rattle.onbar_command.proofs.ViewLemmas.{same_views}
 
 pub record IsReading (tells : Bool) (era : EraView) (old_bytes new_bytes : List ℕ) (old new : ℕ → List ℕ → Type 0)
-    (old_ledger new_ledger : Ledger) (held : ℕ) (state : LogState) : Type 0 where
+    (old_ledger new_ledger : Ledger) (held : ℕ) (first state : LogState) : Type 0 where
   pub end : state.end ≤ held
   pub time : state.time ≤ 2 ^ 48
+  pub patches : AllByRecursion LiesWithin state.open
+  pub view : IsSameViews first.view state.view
   pub taken : IsTrue tells → 73728 + 128 * held ≤ length old_bytes → ReadsTo old_bytes state.end state
   pub bytes : new_bytes ≡ old_bytes
   pub images : Unchanged old new
@@ -20,10 +26,12 @@ pub record IsReading (tells : Bool) (era : EraView) (old_bytes new_bytes : List 
   pub ledger : Uses era (128 * state.end) 0 old_ledger new_ledger
 
 pub nothing_read : (tells : Bool) (era : EraView) (bytes : List ℕ) (image : ℕ → List ℕ → Type 0) (ledger : Ledger) (held : ℕ) (state : LogState) → MayUse era ledger
-    → state.end ≡ 0 → state.time ≤ 2 ^ 48 → ReadsTo bytes state.end state → IsReading tells era bytes bytes image image ledger ledger held state
-nothing_read tells era bytes image ledger held state may end time reads = record {
-  end = omega (arith, end);
-  time = time;
+    → IsStateOf [] state → ReadsTo bytes state.end state → IsReading tells era bytes bytes image image ledger ledger held state state
+nothing_read tells era bytes image ledger held state may is reads = record {
+  end = omega (arith, is.end);
+  time = omega (arith, is.time);
+  patches = subst (λ (t : Table). AllByRecursion LiesWithin t) (sym (is.table refl)) tt;
+  view = same_views state.view;
   taken = λ t long. reads;
   bytes = refl;
   images = record { forth = λ f x is. is; back = λ f x is. is };

@@ -2,16 +2,15 @@
 use Rattle.std.proofs.Common.{◌≡◌, ℕ, suc, ◌+◌, ◌*◌, ◌%◌, ◌≤◌, ◌^◌, List, [], ◌∷◌, ◌++◌, length, take, drop, reverse, Option, None, Some, Bool, true, false, refl, sym, ◌∙◌, ap, subst, arith, append_assoc, length-append}
 use Rattle.std.specs.Prelude.{Result, Ok, Err, IsErrOf, IfSome, IfNone, IsOkUnless, if◌then◌else◌, ◌==◌, nat_lt}
 use Rattle.std.specs.List.{AllByRecursion, flat_map}
-use Rattle.std.specs.Option.{option_or}
+use Rattle.std.specs.Option.{option_map, option_or}
 use Rattle.std.proofs.lemmas.List.{append-nil, take-append-drop, length-reverse}
 use Rattle.std.proofs.lemmas.List.Concat.{flat_map-append}
-use Rattle.std.proofs.lemmas.Bool.{eqb-true}
 use Rattle.log_history.specs.History.{Patch, Entry, History, begin, write, commit, abort, reset}
-use Rattle.log_history.specs.Transactions.{OpenTxn, Table, Refusal, already_open, not_open, too_many_open, refusal, unless_open, unless_new, lookup, without, with_write, after, table_of, last_time, last_time_back}
+use Rattle.log_history.specs.Transactions.{OpenTxn, Table, Refusal, already_open, not_open, too_many_open, refusal, unless_new, lookup, without, with_write, after, table_of, last_time, last_time_back}
 use Rattle.txn_table.specs.Table.{fault_of}
 use Rattle.txn_table.specs.TableLaws.{table_of-push, reverse_push}
 use Rattle.txn_table.specs.declared.faults.OrderFault.{OrderFault}
-use Rattle.txn_table.specs.declared.faults.OrderFault.TheVariants.{AlreadyOpen, NotOpen, TooManyOpen, OutOfMemory}
+use Rattle.txn_table.specs.declared.faults.OrderFault.TheVariants.{NotOpen, OutOfMemory}
 use Rattle.log_record.specs.Layout.{IsRecord, spelling}
 use Rattle.site_model.specs.Openings.{GoesBack, AllGoBack, is_stray, first_stray, stray_back}
 use Rattle.site_model.specs.Runs.{time_after}
@@ -19,7 +18,8 @@ use Rattle.site_model.specs.Spelled.{AllByRecursion-append}
 use Rattle.onbar_command.specs.declared.replay.LogState.{LogState}
 use Rattle.onbar_command.specs.declared.replay.ReplayFault.{ReplayFault}
 use Rattle.onbar_command.specs.declared.replay.ReplayFault.TheVariants.{BadRecord, OutOfMemory as NoMemory}
-use Rattle.onbar_command.specs.Replays.{IsStateOf, TakesRun, MeetsBad, RunIs}
+use Rattle.onbar_command.specs.Replays.{IsSameViews, IsStateOf, LiesWithin, MeetsBad, RunIs, ShowsPages, TakesRun, turns_after, view_after}
+use Rattle.onbar_command.proofs.ViewLemmas.{gone, shows_more, turns-push}
 
 -- where a transaction isn't open, its records leave the table as it is
 without_none : (txn : ℕ) (table : Table) → lookup txn table ≡ None → without txn table ≡ table
@@ -39,10 +39,6 @@ with_write_none txn patch (o ∷ others) none = by (with_write_none txn patch ot
         → (if same then record o { patches = o.patches ++ patch ∷ [] } ∷ others else o ∷ with_write txn patch others) ≡ o ∷ others
     by rest true is = cc is
     by rest false is = ap (λ (t : Table). o ∷ t) (rest is)
-
-gone : (found : Option OpenTxn) → unless_open found ≡ Some not_open → found ≡ None
-gone None is = refl
-gone (Some o) is = cc is
 
 -- a record of a transaction that isn't open
 pub passes_over : (at : ℕ) (entry : Entry) (table : Table) → refusal entry table ≡ Some not_open → after at entry table ≡ table
@@ -94,20 +90,20 @@ none_of : (first second : Option ℕ) → option_or first second ≡ None → fi
 none_of None second is = refl
 none_of (Some n) second is = cc is
 
--- the state after one record more
-pub state_more : (past : History) (entry : Entry) (old new : LogState) → IsStateOf past old → new.end ≡ old.end + 1
-    → new.time ≡ time_after old.time entry → new.stray ≡ option_or old.stray (if is_stray entry old.open then Some old.end else None)
-    → (old.stray ≡ None → new.stray ≡ None → new.open ≡ after (old.end + 1) entry old.open) → IsStateOf (past ++ entry ∷ []) new
-state_more past entry old new was end time stray table = record {
-  end = omega (arith, was.end, end, length-append past (entry ∷ []));
-  time = time ∙ ap (λ (t : ℕ). time_after t entry) was.time ∙ sym (last_time-push past entry);
-  stray = stray_is;
-  table = λ none.
-      let before : first_stray past ≡ None = none_of (first_stray past) (stray_at entry (table_of past) (length past)) (sym (first_stray-push past entry) ∙ none) in
-      table (was.stray ∙ before) (stray_is ∙ none)
-      ∙ ap (λ (n : ℕ). after n entry old.open) (let e : old.end + 1 ≡ suc (length past) = omega (arith, was.end) in e)
-      ∙ ap (after (suc (length past)) entry) (was.table before) ∙ sym (table_of-push past entry);
-}
+-- a state and the one after one record more
+pub record IsNext (entry : Entry) (old new : LogState) : Type 0 where
+  pub end : new.end ≡ old.end + 1
+  pub time : new.time ≡ time_after old.time entry
+  pub stray : new.stray ≡ option_or old.stray (stray_at entry old.open old.end)
+  pub table : old.stray ≡ None → new.stray ≡ None → new.open ≡ after (old.end + 1) entry old.open
+  pub turns : new.turns ≡ turns_after (old.end + 1) entry old.turns
+  pub view : old.stray ≡ None → new.stray ≡ None → new.view ≡ option_map (view_after (old.end + 1) entry old.open) old.view
+
+-- where a record is the first stray one, it is that of the history
+stray_more : (past : History) (entry : Entry) (old : LogState) → IsStateOf past old
+    → option_or old.stray (stray_at entry old.open old.end) ≡ first_stray (past ++ entry ∷ [])
+stray_more past entry old was =
+    ap (λ (s : Option ℕ). option_or s (stray_at entry old.open old.end)) was.stray ∙ by (first_stray past) refl ∙ sym (first_stray-push past entry)
   where
     by : (first : Option ℕ) → first_stray past ≡ first
         → option_or (first_stray past) (stray_at entry old.open old.end) ≡ option_or (first_stray past) (stray_at entry (table_of past) (length past))
@@ -116,9 +112,41 @@ state_more past entry old new was end time stray table = record {
         ap (λ (t : Table). option_or (first_stray past) (stray_at entry t old.end)) (was.table is)
         ∙ ap (λ (n : ℕ). option_or (first_stray past) (stray_at entry (table_of past) n)) was.end
 
-    stray_is : new.stray ≡ first_stray (past ++ entry ∷ [])
-    stray_is =
-        stray ∙ ap (λ (s : Option ℕ). option_or s (stray_at entry old.open old.end)) was.stray ∙ by (first_stray past) refl ∙ sym (first_stray-push past entry)
+-- the state after one record more
+module _ (past : History) (entry : Entry) (old new : LogState) (was : IsStateOf past old) (next : IsNext entry old new) where
+  at_is : old.end + 1 ≡ suc (length past)
+  at_is = omega (arith, was.end)
+
+  stray_is : new.stray ≡ first_stray (past ++ entry ∷ [])
+  stray_is = next.stray ∙ stray_more past entry old was
+
+  none_before : first_stray (past ++ entry ∷ []) ≡ None → first_stray past ≡ None
+  none_before none = none_of (first_stray past) (stray_at entry (table_of past) (length past)) (sym (first_stray-push past entry) ∙ none)
+
+  table_is : first_stray (past ++ entry ∷ []) ≡ None → new.open ≡ table_of (past ++ entry ∷ [])
+  table_is none =
+      next.table (was.stray ∙ none_before none) (stray_is ∙ none)
+      ∙ ap (λ (n : ℕ). after n entry old.open) at_is
+      ∙ ap (after (suc (length past)) entry) (was.table (none_before none)) ∙ sym (table_of-push past entry)
+
+  view_is : first_stray (past ++ entry ∷ []) ≡ None → IfSome new.view (ShowsPages (past ++ entry ∷ []))
+  view_is none =
+      shows_more past entry old.view new.view (was.view (none_before none))
+      (next.view (was.stray ∙ none_before none) (stray_is ∙ none)
+      ∙ ap (λ (n : ℕ). option_map (view_after n entry old.open) old.view) at_is
+      ∙ ap (λ (t : Table). option_map (view_after (suc (length past)) entry t) old.view) (was.table (none_before none)))
+
+  pub state_more : IsStateOf (past ++ entry ∷ []) new
+  state_more = record {
+    end = omega (arith, was.end, next.end, length-append past (entry ∷ []));
+    time = next.time ∙ ap (λ (t : ℕ). time_after t entry) was.time ∙ sym (last_time-push past entry);
+    stray = stray_is;
+    table = table_is;
+    turns =
+        next.turns ∙ ap (λ (n : ℕ). turns_after n entry old.turns) at_is ∙ ap (turns_after (suc (length past)) entry) was.turns
+        ∙ sym (turns-push past entry);
+    view = view_is;
+  }
 
 -- some records of a run are taken behind others, and the rest of its bytes is left
 pub record Partway (past : History) (run rest : List ℕ) (now : LogState) : Type 0 where
@@ -132,6 +160,8 @@ pub record IsPartway (first now : LogState) (run rest : List ℕ) : Type 0 where
   pub whole : length rest % 128 ≡ 0
   pub count : now.end * 128 + length rest ≡ first.end * 128 + length run
   pub time : now.time ≤ 2 ^ 48
+  pub patches : AllByRecursion LiesWithin now.open
+  pub view : IsSameViews first.view now.view
   pub taken : (past : History) → IsStateOf past first → AllGoBack (reverse past) → Partway past run rest now
 
 pub partway_none : (past : History) (run : List ℕ) (first : LogState) → IsStateOf past first → AllGoBack (reverse past) → Partway past run run first
@@ -146,9 +176,8 @@ partway_none past run first was back = record {
 -- one record more
 pub partway_more : (past : History) (run rest slot others : List ℕ) (old new : LogState) (entry : Entry) → Partway past run rest old
     → IsRecord entry → GoesBack old.end entry → slot ≡ spelling entry → slot ≡ take 128 rest → others ≡ drop 128 rest
-    → new.end ≡ old.end + 1 → new.time ≡ time_after old.time entry → new.stray ≡ option_or old.stray (if is_stray entry old.open then Some old.end else None)
-    → (old.stray ≡ None → new.stray ≡ None → new.open ≡ after (old.end + 1) entry old.open) → Partway past run others new
-partway_more past run rest slot others old new entry way is_record goes slot_is first_is others_is end time stray table = record {
+    → IsNext entry old new → Partway past run others new
+partway_more past run rest slot others old new entry way is_record goes slot_is first_is others_is next = record {
   done = way.done ++ entry ∷ [];
   records = AllByRecursion-append IsRecord way.done (entry ∷ []) way.records (is_record, tt);
   back = subst (λ (h : History). AllGoBack (reverse h)) regrouped
@@ -158,7 +187,7 @@ partway_more past run rest slot others old new entry way is_record goes slot_is 
       ∙ ap (λ (l : List ℕ). flat_map spelling way.done ++ l) (sym (take-append-drop 128 rest) ∙ ap (λ (l : List ℕ). l ++ drop 128 rest) (sym first_is ∙ slot_is) ∙ ap (λ (l : List ℕ). spelling entry ++ l) (sym others_is))
       ∙ sym (append_assoc (flat_map spelling way.done) (spelling entry) others)
       ∙ ap (λ (l : List ℕ). l ++ others) (ap (λ (l : List ℕ). flat_map spelling way.done ++ l) (sym (append-nil (spelling entry))) ∙ sym (flat_map-append spelling way.done (entry ∷ [])));
-  state = subst (λ (h : History). IsStateOf h new) regrouped (state_more (past ++ way.done) entry old new way.state end time stray table);
+  state = subst (λ (h : History). IsStateOf h new) regrouped (state_more (past ++ way.done) entry old new way.state next);
 }
   where
     regrouped : (past ++ way.done) ++ entry ∷ [] ≡ past ++ (way.done ++ entry ∷ [])

@@ -1,5 +1,5 @@
 -- What the two disks of a form say of all disks of a site.
-use Rattle.std.proofs.Common.{◌≡◌, ◌⊎◌, Bool, true, ⊎_elim, inl, inr, ℕ, ◌+◌, ◌<◌, ◌≤◌, List, [], ◌∷◌, ◌++◌, length, map, count_by, Option, None, Some, slice_get, Result, Ok, Err, refl, sym, ◌∙◌, ap, subst, arith}
+use Rattle.std.proofs.Common.{◌≡◌, ◌⊎◌, Bool, true, false, ⊎_elim, inl, inr, ℕ, ◌+◌, ◌<◌, ◌≤◌, List, [], ◌∷◌, ◌++◌, length, map, count_by, Option, None, Some, slice_get, Result, Ok, Err, refl, sym, ◌∙◌, ap, subst, arith}
 use Rattle.std.proofs.lemmas.Bool.{cases_lt}
 use Rattle.std.proofs.Math.Seq.{drop-append_seam}
 use Rattle.log_history.specs.History.{History}
@@ -14,19 +14,19 @@ use Rattle.site_model.specs.declared.disk_name.DiskName.TheVariants.{Cat, Spare,
 use Rattle.site_model.specs.declared.status.Status.{Status}
 use Rattle.site_model.specs.declared.status.Status.TheVariants.{Ok as Done}
 use Rattle.site_model.specs.Commands.{IsAmong, IsPassed, frame_of, IsSound}
-use Rattle.site_model.specs.Layouts.{Shows, StandFor, HoldsLog, HasNoCatalogue}
+use Rattle.site_model.specs.Layouts.{Shows, StandFor, HoldsLog}
 use Rattle.site_model.specs.Runs.{Run, Ending, refused, run_of, run_lines, first_place, transactions}
 use Rattle.site_model.specs.Steps.{Passes, StandsAmong, ShowsOrRests}
 use Rattle.site_model.specs.Stops.{KeepsPromise, promise}
 use Rattle.site_model.specs.Texts.{counts_text, extension_text, status_text, is_commit_entry}
-use Rattle.site_model.specs.Worlds.{Site, World, unformatted, formatted, with_history, IsFit}
+use Rattle.site_model.specs.Worlds.{Site, World, formatted, with_history}
 use Rattle.onbar_command.specs.declared.extending.Extended.{Extended}
 use Rattle.onbar_command.specs.declared.report.Report.{Report}
-use Rattle.onbar_command.specs.declared.report.Report.TheVariants.{Formatted, Extended as LogExtended}
+use Rattle.onbar_command.specs.declared.report.Report.TheVariants.{Extended as LogExtended}
 use Rattle.onbar_command.specs.declared.site.SiteDisks.{SiteDisks}
-use Rattle.onbar_command.specs.Disks.{bytes_or, contents_of, disk_of, image_or, images_of, may_or, scene_of, MayUseAll, Rests}
+use Rattle.onbar_command.specs.Disks.{bytes_or, contents_of, disk_of, image_or, images_of, may_or, scene_of, written_of, MayUseAll, Rests}
 use Rattle.onbar_command.specs.Extending.{ExtendsTo}
-use Rattle.onbar_command.specs.Forms.{IsDone, Finishes}
+use Rattle.onbar_command.specs.Forms.{IsDone, status_told, text_told}
 use Rattle.onbar_command.specs.Walks.{IsOneOf, IsOnTheWay, LogWalk}
 
 module _ {D : Type 0} (disks : SiteDisks D) (cat log : D) where
@@ -178,6 +178,27 @@ module _ {D : Type 0} (disks : SiteDisks D) (cat log : D) (bytes_of : D → List
       read = λ r is. absurd (not_done is);
     }
 
+    -- a form that read only
+    pub rested_done : (world : World) → StandFor (contents_of bytes_of disks) world → (run : Run) → run.last ≡ world → (after : List ℕ) (result : Result Report Status)
+        → run.status ≡ status_told result → run.text ≡ text_told result
+        → IsDone false run after (contents_of bytes_of (moved disks cat log)) (now + 1) (frame_of entry (images_of image disks) (Rests ledger disks (moved disks cat log)))
+        (images_of image (moved disks cat log)) result
+    rested_done world stand run last after result status text = record {
+      status = status;
+      text = text;
+      stands = subst (λ (w : World). StandFor (contents_of bytes_of (moved disks cat log)) w) (sym last)
+          (stand_for disks cat log bytes_of world (subst (λ (c : List ℕ). Shows Cat world c) (sym cat_bytes) (stand Cat))
+          (subst (λ (c : List ℕ). Shows Log world c) (sym log_bytes) (stand Log)));
+      crash = λ f le. stands_so disks cat log image entry (Rests ledger disks (moved disks cat log)) (λ w. w ≡ run.last) f
+          (λ a b of_cat of_log. (
+            world,
+            sym last,
+            inl (subst (λ (c : List ℕ). Shows Cat world c) (sym (cat_only f a (omega (arith, within, le)) of_cat)) (stand Cat)),
+            inl (subst (λ (c : List ℕ). Shows Log world c) (sym (log_only f b (omega (arith, within, le)) of_log)) (stand Log)),
+          ));
+      read = λ reads. absurd (cc reads);
+    }
+
 -- the same where the disks' record is one that equals it
 pub in_place : {D : Type 0} (P : SiteDisks D → Type 0) (new old : SiteDisks D) → new ≡ old → P old → P new
 in_place P new old same is = subst P (sym same) is
@@ -208,6 +229,17 @@ module _ {D : Type 0} (ledger : D → Ledger) (era later : EraView) (key : later
 
   pub may_all_later : (disks : SiteDisks D) → MayUseAll ledger era disks → MayUseAll ledger later disks
   may_all_later disks may name = may_later (disk_of disks name) (may name)
+
+-- where nothing was written on two disks, and the others are the same
+pub unwritten : {D : Type 0} (ledger : D → Ledger) (old new : SiteDisks D) → new ≡ record old { cat = new.cat; log = new.log }
+    → (ledger new.cat).written ≤ (ledger old.cat).written → (ledger new.log).written ≤ (ledger old.log).written
+    → (name : DiskName) → written_of ledger new name ≤ written_of ledger old name
+unwritten ledger old new same cat log Cat = cat
+unwritten ledger old new same cat log Log = log
+unwritten {D} ledger old new same cat log Spare = rw (ap (λ (d : SiteDisks D). d.spare) same) (omega arith)
+unwritten {D} ledger old new same cat log Boot = rw (ap (λ (d : SiteDisks D). d.boot) same) (omega arith)
+unwritten {D} ledger old new same cat log (Volume n) = rw (ap (λ (d : SiteDisks D). d.volumes) same) (omega arith)
+unwritten {D} ledger old new same cat log (Chunk n) = rw (ap (λ (d : SiteDisks D). d.chunks) same) (omega arith)
 
 -- a command that uses no disk
 pub passes_still : {D : Type 0} (image : D → ℕ → List ℕ → Type 0) (ledger : D → Ledger) (entry : ℕ) (disks : SiteDisks D) (world : World) (run : Run)

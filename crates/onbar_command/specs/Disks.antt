@@ -67,9 +67,12 @@ module _ {D : Type 0} where
   written_or ledger None = 0
   written_or ledger (Some disk) = (ledger disk).written
 
+  abbrev pub written_of : (D → Ledger) → SiteDisks D → DiskName → ℕ
+  written_of ledger disks name = written_or ledger (disk_of disks name)
+
   -- nothing was written on any disk
   pub record AreKept (bytes : D → List ℕ) (image : D → ℕ → List ℕ → Type 0) (ledger : D → Ledger) (old new : SiteDisks D) : Type 0 where
-    pub written : (name : DiskName) → written_or ledger (disk_of new name) ≤ written_or ledger (disk_of old name)
+    pub written : (name : DiskName) → written_of ledger new name ≤ written_of ledger old name
     pub reads : (name : DiskName) → contents_of bytes new name ≡ contents_of bytes old name
     pub images : (f : ℕ) (name : DiskName) (c : List ℕ) → images_of image new f name c → images_of image old f name c
 

@@ -1,6 +1,7 @@
 -- What a form comes to, before its text is printed.
-use Rattle.std.specs.Prelude.{◌≡◌, ◌⊎◌, ℕ, List, [], ◌++◌, Bool, true, Result, Ok, Err}
+use Rattle.std.specs.Prelude.{◌≡◌, ◌⊎◌, ℕ, List, [], ◌++◌, Bool, true, false, Result, Ok, Err}
 use Rattle.std.specs.List.{flat_map}
+use Rattle.onbar_grammar.specs.Words.{Command, CommandForm, init_form, transactions_form, show_form}
 use Rattle.onbar_words.specs.SpaceHead.{spaces_of}
 use Rattle.site_model.specs.declared.disk_name.DiskName.{DiskName}
 use Rattle.site_model.specs.declared.status.Status.{Status}
@@ -13,16 +14,19 @@ use Rattle.site_model.specs.Texts.{space_text, counts_text, status_text}
 use Rattle.site_model.specs.Worlds.{World}
 use Rattle.onbar_command.specs.Extending.{IsUncut}
 use Rattle.onbar_command.specs.declared.report.Report.{Report}
-use Rattle.onbar_command.specs.declared.report.Report.TheVariants.{Formatted, Extended as LogExtended}
+use Rattle.onbar_command.specs.declared.report.Report.TheVariants.{Formatted, Extended as LogExtended, Shown as PagesShown}
+use Rattle.onbar_command.specs.Showing.{text_of_shown, IsWhole}
 
 abbrev pub status_told : Result Report Status → Status
 status_told (Ok (LogExtended told)) = told.status
 status_told (Ok (Formatted spaces)) = Done
+status_told (Ok (PagesShown shown)) = Done
 status_told (Err status) = status
 
 abbrev pub text_told : Result Report Status → List ℕ
 text_told (Ok (LogExtended told)) = counts_text told.counts.lines told.counts.commits told.end ++ status_text told.status
 text_told (Ok (Formatted spaces)) = flat_map space_text (spaces_of spaces.items) ++ status_text Done
+text_told (Ok (PagesShown shown)) = text_of_shown shown ++ status_text Done
 text_told (Err status) = status_text status
 
 -- the work is done, and only its text is to be printed; a form that reads its script read it to its end at Ok
@@ -43,3 +47,20 @@ Finishes reads run after contents era frame new (Err status) = CutsShort status 
 abbrev pub IsNoStop : Report → Type 0
 IsNoStop (LogExtended told) = IsUncut told
 IsNoStop (Formatted spaces) = Unit {0}
+IsNoStop (PagesShown shown) = Unit {0}
+
+-- a space is told from its first page on
+abbrev pub IsTellable : Report → Type 0
+IsTellable (LogExtended told) = Unit {0}
+IsTellable (Formatted spaces) = Unit {0}
+IsTellable (PagesShown shown) = IsWhole shown
+
+-- whether a form shows pages
+abbrev pub is_show : CommandForm → Bool
+is_show (init_form blocks spaces) = false
+is_show transactions_form = false
+is_show (show_form name page) = true
+
+abbrev pub shows_pages : Result Command ℕ → Bool
+shows_pages (Err n) = false
+shows_pages (Ok command) = is_show command.form

@@ -9,5 +9,6 @@ pub mod Openings
 pub mod Printing
 pub mod Replays
 pub mod Scripts
+pub mod Showing
 pub mod Turns
 pub mod Walks

@@ -1,20 +1,63 @@
 -- What a command knows of the log's records when it has read them.
-use Rattle.std.specs.Prelude.{◌≡◌, ℕ, ◌≤◌, List, ◌++◌, take, length, reverse, None, Result, Ok, Err}
+use Rattle.std.specs.Prelude.{◌≡◌, ℕ, ◌≤◌, List, [], ◌∷◌, ◌++◌, map, take, length, reverse, Option, None, Some, IfSome, Result, Ok, Err, if◌then◌else◌}
 use Rattle.std.specs.List.{AllByRecursion, flat_map}
-use Rattle.log_history.specs.History.{Entry, History}
-use Rattle.log_history.specs.Transactions.{table_of, last_time}
-use Rattle.log_record.specs.Layout.{IsRecord, spelling}
+use Rattle.log_history.specs.Effects.{Change, change_by}
+use Rattle.log_history.specs.History.{Entry, History, reset}
+use Rattle.log_history.specs.Live.{Turn, live_by, turns}
+use Rattle.log_history.specs.Transactions.{OpenTxn, Table, given, table_of, last_time}
+use Rattle.log_record.specs.Layout.{IsPatch, IsRecord, spelling}
+use Rattle.space_pages.specs.Pages.{empty_pages, forward}
+use Rattle.space_pages.specs.Progress.{changes_until}
 use Rattle.site_model.specs.Openings.{GoesBack, AllGoBack, first_stray}
 use Rattle.onbar_command.specs.declared.replay.LogState.{LogState}
+use Rattle.onbar_command.specs.declared.replay.View.{View}
 use Rattle.onbar_command.specs.declared.replay.ReplayFault.{ReplayFault}
 use Rattle.onbar_command.specs.declared.replay.ReplayFault.TheVariants.{BadRecord, OutOfMemory}
 
--- the end of a history, its last time, its first Begin out of order, and the open transactions where there is none
+-- what stays of a view while it is brought forward
+pub record IsSameView (old new : View) : Type 0 where
+  pub space : new.pages.space ≡ old.pages.space
+  pub first : new.pages.first ≡ old.pages.first
+  pub count : length new.pages.pages ≡ length old.pages.pages
+  pub turns : new.turns ≡ old.turns
+  pub at : new.at ≡ old.at
+
+abbrev pub IsSameViews : Option View → Option View → Type 0
+IsSameViews None None = Unit {0}
+IsSameViews (Some old) (Some new) = IsSameView old new
+IsSameViews old new = ⊥
+
+-- the pages of a view as a history's records bring them forward from empty ones
+abbrev pub ShowsPages : History → View → Type 0
+ShowsPages history view =
+    view.pages ≡ forward (record view.pages { pages = empty_pages (length view.pages.pages) }) (changes_until view.turns view.at history)
+
+-- a view with what the record at a position gives
+abbrev pub with_changes : ℕ → List Change → View → View
+with_changes x changes view = record view { pages = forward view.pages (if live_by view.turns view.at x then changes else []) }
+
+-- a view with what a record at a position gives, by the table before it
+abbrev pub view_after : ℕ → Entry → Table → View → View
+view_after x entry table view = with_changes x (map (change_by x) (given entry table)) view
+
+-- the Resets with the record at a position
+abbrev pub turns_after : ℕ → Entry → List Turn → List Turn
+turns_after x (reset restore target time) turned = record { at = x; target = target } ∷ turned
+turns_after x entry turned = turned
+
+-- the bytes of each Write of a transaction lie within a page
+abbrev pub LiesWithin : OpenTxn → Type 0
+LiesWithin o = AllByRecursion IsPatch o.patches
+
+-- The end of a history, its last time, its Resets, its first Begin out of order; where there is none, the open transactions
+-- and the pages that are shown.
 pub record IsStateOf (history : History) (state : LogState) : Type 0 where
   pub end : state.end ≡ length history
   pub time : state.time ≡ last_time history
   pub stray : state.stray ≡ first_stray history
   pub table : first_stray history ≡ None → state.open ≡ table_of history
+  pub turns : state.turns ≡ turns history
+  pub view : first_stray history ≡ None → IfSome state.view (ShowsPages history)
 
 -- the records that a run of slots spells, each where it may stand behind some others
 pub record TakesRun (past : History) (run : List ℕ) (now : LogState) : Type 0 where

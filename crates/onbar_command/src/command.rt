@@ -1,5 +1,5 @@
 // The command `onbar`.
-ghost use Rattle.std.specs.Prelude.{◌≡◌, ◌⊎◌, ◌+◌, ◌*◌, ◌-◌, ◌<◌, ◌≤◌, ◌^◌, ◌++◌, ℕ, Some, true, false, length, map, string_bytes, IsTrue};
+ghost use Rattle.std.specs.Prelude.{◌≡◌, ◌⊎◌, ◌+◌, ◌*◌, ◌-◌, ◌<◌, ◌≤◌, ◌^◌, ◌++◌, ℕ, Err, true, false, length, map, string_bytes, IsTrue};
 ghost use Rattle.onbar_grammar.specs.Words.{command_of};
 ghost use Rattle.onbar_words.specs.Cutting.{TakesFront};
 ghost use Rattle.site_disk.specs.Causes.{Rose};
@@ -7,14 +7,15 @@ ghost use Rattle.site_model.specs.declared.disk_name.DiskName.{DiskName};
 ghost use Rattle.site_model.specs.Commands.{CutsShort, Did, IsPassed, IsSound, Printed, ReadsOf, frame_of};
 ghost use Rattle.site_model.specs.Layouts.{StandFor};
 ghost use Rattle.site_model.specs.Openings.{IsOfDisks, IsOpenable, IsRefused, IsUsage, OpensFor};
-ghost use Rattle.site_model.specs.Runs.{reads_script, run, usage_word};
+ghost use Rattle.site_model.specs.Runs.{reads_script, run};
 ghost use Rattle.site_model.specs.Steps.{Passes};
 ghost use Rattle.site_model.specs.Stops.{KeepsPromise};
 ghost use Rattle.site_model.specs.Texts.{status_text};
 ghost use Rattle.site_model.specs.Worlds.{World};
 ghost use Rattle.site_model.specs.declared.status.Status.{Status};
 ghost use Rattle.site_model.specs.declared.status.Status.TheVariants.{Usage};
-ghost use Rattle.onbar_command.specs.Disks.{contents_of, images_of, faults_of, scene_of, AreKept, Rests, MayUseAll};
+ghost use Rattle.onbar_command.specs.Forms.{shows_pages};
+ghost use Rattle.onbar_command.specs.Disks.{contents_of, images_of, faults_of, written_of, scene_of, AreKept, Rests, MayUseAll};
 
 use crate::form::run_words;
 use crate::printing::print_all;
@@ -26,7 +27,7 @@ use std::alloc::{AllocError, Global};
 use std::thread::Threads;
 
 /// Does what the words say at a moment, in seconds from 1970: `-init` formats a site, `-T` extends its log by the
-/// transactions of a script.
+/// transactions of a script, `-D` shows a space or a page of it as the log's end has it, and writes nothing.
 ///
 /// The text is printed once the work is done. Where the command is cut short it says nothing of what stands: the next one
 /// finds it.
@@ -72,7 +73,7 @@ pub fn onbar<R: Threads + Sync, D: Disk + Send, S: Source, K: Sink>(
         (frame_of era.old.number (images_of D.image site.old.disks) (Rests D.ledger site.old.disks site.new.disks)) (images_of D.image site.new.disks) }
     ensures script { IsTrue D.tells → IsTrue S.tells → (world : World) → IsOpenable world → StandFor (contents_of D.bytes site.old.disks) world
         → ReadsOf (map string_bytes words.now) result (S.left script.old) (S.left script.new) }
-    ensures usage { (n : ℕ) → usage_word (map string_bytes words.now) ≡ Some n
+    ensures usage { (n : ℕ) → command_of (map string_bytes words.now) ≡ Err n
         → (site.new ≡ site.old) × (script.new ≡ script.old)
         × ((result ≡ Status.Usage n) ⊎ ((result ≡ Status.OutOfMemory) ⊎ (result ≡ Status.WriteFault))) }
     ensures usage_text { IsTrue K.tells → (n : ℕ) → result ≡ Status.Usage n → K.taken out.new ≡ K.taken out.old ++ status_text (Usage n) }
@@ -88,12 +89,16 @@ pub fn onbar<R: Threads + Sync, D: Disk + Send, S: Source, K: Sink>(
     ensures disk_fault { (name : DiskName) → result ≡ Status.DiskFault name
         → Rose (faults_of D.ledger site.old.disks name) (faults_of D.ledger site.new.disks name) }
 
-    // The catalogue's page and the log are read once. Formatting writes their headers and the log's gates; a script writes
-    // at most 32 records and a gate in each era that it begins.
+    // The catalogue's page and the log are read once; the log is read twice where pages are shown. Formatting writes their
+    // headers and the log's gates; a script writes at most 32 records and a gate in each era that it begins.
     ensures cat_read { (D.ledger site.new.disks.cat).read ≤ (D.ledger site.old.disks.cat).read + 4097 }
     ensures cat_written { (D.ledger site.new.disks.cat).written ≤ (D.ledger site.old.disks.cat).written + 4098 }
     ensures cat_unwritten { reads_script (command_of (map string_bytes words.now)) ≡ true → (D.ledger site.new.disks.cat).written ≤ (D.ledger site.old.disks.cat).written }
-    ensures log_read { (D.ledger site.new.disks.log).read ≤ (D.ledger site.old.disks.log).read + 8458240 }
+    ensures log_read { (D.ledger site.new.disks.log).read ≤ (D.ledger site.old.disks.log).read + 16916480 }
+    ensures log_read_once { shows_pages (command_of (map string_bytes words.now)) ≡ false
+        → (D.ledger site.new.disks.log).read ≤ (D.ledger site.old.disks.log).read + 8458240 }
+    ensures shows_unwritten { shows_pages (command_of (map string_bytes words.now)) ≡ true
+        → (name : DiskName) → written_of D.ledger site.new.disks name ≤ written_of D.ledger site.old.disks name }
     ensures log_formatted { reads_script (command_of (map string_bytes words.now)) ≡ false
         → (D.ledger site.new.disks.log).written ≤ (D.ledger site.old.disks.log).written + 77826 }
     ensures log_written { IsTrue D.tells → IsTrue S.tells → reads_script (command_of (map string_bytes words.now)) ≡ true

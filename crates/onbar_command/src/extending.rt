@@ -36,7 +36,8 @@ pub struct Extended {
     pub status: Status,
 }
 
-fn log_status(fault: OpenFault) -> Status
+/// How a command ends whose log can't be opened.
+pub fn log_status(fault: OpenFault) -> Status
     ensures { result ≡ log_status fault }
 {
     match fault {
@@ -141,7 +142,7 @@ pub fn extend_log<D: Disk, S: Source>(
     ensures no_write_fault { IsErrOf result Status.WriteFault → ⊥ }
     ensures disk_fault { (name : DiskName) → IsErrOf result (Status.DiskFault name) → (name ≡ DiskName.Log) × Rose (D.ledger log.old).faults (D.ledger log.new).faults }
 {
-    let opened = match open_log(alloc, log, era, head.site, buffer) {
+    let opened = match open_log(LogState::new(alloc), log, era, head.site, buffer) {
         Ok(opened) => opened,
         Err(fault) => return Err(log_status(fault)),
     };

@@ -1,6 +1,6 @@
 // The forms of a command over the disks of a site.
-ghost use Rattle.std.specs.Prelude.{◌≡◌, ◌⊎◌, ◌+◌, ◌*◌, ◌-◌, ◌<◌, ◌≤◌, ◌^◌, ℕ, List, Bool, true, false, None, Some, Ok, length, map, string_bytes, IsTrue, OnOk, IfOk, IfErr, IsErrOf};
-ghost use Rattle.onbar_grammar.specs.Words.{Command, init_form, transactions_form, command_of, form_at};
+ghost use Rattle.std.specs.Prelude.{◌≡◌, ◌⊎◌, ◌+◌, ◌*◌, ◌-◌, ◌<◌, ◌≤◌, ◌^◌, ℕ, List, Bool, true, false, Ok, Err, length, map, string_bytes, IsTrue, OnOk, IfOk, IfErr, IsErrOf};
+ghost use Rattle.onbar_grammar.specs.Words.{init_form, transactions_form, show_form, command_of};
 ghost use Rattle.onbar_words.specs.Cutting.{TakesFront};
 ghost use Rattle.onbar_words.specs.Order.{form_in, FitsASite};
 ghost use Rattle.onbar_words.specs.SpaceHead.{spaces_of};
@@ -12,18 +12,20 @@ ghost use Rattle.site_model.specs.declared.disk_name.DiskName.TheVariants.{Cat};
 ghost use Rattle.site_model.specs.Commands.{CutsShort, IsPassed, IsSound, frame_of};
 ghost use Rattle.site_model.specs.Layouts.{HasNoCatalogue, StandFor};
 ghost use Rattle.site_model.specs.Openings.{DisksRefuse, IsOpenable, IsOpenFor, IsRefused, IsUsage, OpensFor};
-ghost use Rattle.site_model.specs.Runs.{head_at, is_shown, is_transactions, reads_script, run, run_form, usage_word};
+ghost use Rattle.site_model.specs.Runs.{head_at, is_transactions, reads_script, run, run_form};
 ghost use Rattle.site_model.specs.Steps.{Passes};
 ghost use Rattle.site_model.specs.Stops.{KeepsPromise};
 ghost use Rattle.site_model.specs.Worlds.{World};
-ghost use Rattle.onbar_command.specs.Disks.{contents_of, images_of, faults_of, scene_of, AreKept, Rests, MayUseAll};
-ghost use Rattle.onbar_command.specs.Forms.{Finishes, IsNoStop};
+ghost use Rattle.onbar_command.specs.Disks.{contents_of, images_of, faults_of, written_of, scene_of, AreKept, Rests, MayUseAll};
+ghost use Rattle.onbar_command.specs.Forms.{is_show, shows_pages, Finishes, IsNoStop, IsTellable};
 
 use crate::entering::find_head;
 use crate::extending::extend_log;
 use crate::formatting::SiteFault;
 use crate::report::Report;
+use crate::showing::show_log;
 use crate::site::Site;
+use bsa_descriptor::Text;
 use onbar_words::{Form, SpaceHead, WordFault, read_words};
 use site_disk::{Disk, Era, Source};
 use site_headers::SiteHead;
@@ -47,14 +49,15 @@ fn run_transactions<D: Disk, S: Source>(
     ensures opens { IsTrue D.tells → OnOk result (IsOpenFor transactions_form (contents_of D.bytes site.old.disks)) }
     ensures kept { IfErr result (λ status. CutsShort status ⊎ AreKept D.bytes D.image D.ledger site.old.disks site.new.disks) }
 
-    ensures passes { IsTrue D.tells → IsTrue S.tells → (world : World) → IsOpenable world → StandFor (contents_of D.bytes site.old.disks) world → (at : ℕ)
+    ensures passes { IsTrue D.tells → IsTrue S.tells → (world : World) → IsOpenable world → StandFor (contents_of D.bytes site.old.disks) world
         → Passes (frame_of era.old.number (images_of D.image site.old.disks) (Rests D.ledger site.old.disks site.new.disks)
-        (IsPassed world (run_form moment world (S.left source.old) at transactions_form))) (images_of D.image site.new.disks) }
-    ensures finishes { IsTrue D.tells → IsTrue S.tells → (world : World) → IsOpenable world → StandFor (contents_of D.bytes site.old.disks) world → (at : ℕ)
-        → Finishes true (run_form moment world (S.left source.old) at transactions_form) (S.left source.new) (contents_of D.bytes site.new.disks) (era.new.number + 1)
+        (IsPassed world (run_form moment world (S.left source.old) transactions_form))) (images_of D.image site.new.disks) }
+    ensures finishes { IsTrue D.tells → IsTrue S.tells → (world : World) → IsOpenable world → StandFor (contents_of D.bytes site.old.disks) world
+        → Finishes true (run_form moment world (S.left source.old) transactions_form) (S.left source.new) (contents_of D.bytes site.new.disks) (era.new.number + 1)
         (frame_of era.old.number (images_of D.image site.old.disks) (Rests D.ledger site.old.disks site.new.disks)) (images_of D.image site.new.disks) result }
 
     ensures no_stop { IfOk result IsNoStop }
+    ensures tellable { IfOk result IsTellable }
     ensures era { era.new.number ≤ era.old.number + 16777220 }
     ensures era_later { era.old.number + 1 ≤ era.new.number }
     ensures key { era.new.key ≡ era.old.key }
@@ -101,14 +104,15 @@ fn run_init<D: Disk>(
     ensures opens { IsTrue D.tells → OnOk result (IsOpenFor (init_form blocks (spaces_of spaces.items)) (contents_of D.bytes site.old.disks)) }
     ensures kept { IfErr result (λ status. CutsShort status ⊎ AreKept D.bytes D.image D.ledger site.old.disks site.new.disks) }
 
-    ensures passes { IsTrue D.tells → (world : World) → IsOpenable world → StandFor (contents_of D.bytes site.old.disks) world → (script : List ℕ) (at : ℕ)
+    ensures passes { IsTrue D.tells → (world : World) → IsOpenable world → StandFor (contents_of D.bytes site.old.disks) world → (script : List ℕ)
         → Passes (frame_of era.old.number (images_of D.image site.old.disks) (Rests D.ledger site.old.disks site.new.disks)
-        (IsPassed world (run_form moment world script at (init_form blocks (spaces_of spaces.items))))) (images_of D.image site.new.disks) }
-    ensures finishes { IsTrue D.tells → (world : World) → IsOpenable world → StandFor (contents_of D.bytes site.old.disks) world → (script after : List ℕ) (at : ℕ)
-        → Finishes false (run_form moment world script at (init_form blocks (spaces_of spaces.items))) after (contents_of D.bytes site.new.disks) (era.new.number + 1)
+        (IsPassed world (run_form moment world script (init_form blocks (spaces_of spaces.items))))) (images_of D.image site.new.disks) }
+    ensures finishes { IsTrue D.tells → (world : World) → IsOpenable world → StandFor (contents_of D.bytes site.old.disks) world → (script after : List ℕ)
+        → Finishes false (run_form moment world script (init_form blocks (spaces_of spaces.items))) after (contents_of D.bytes site.new.disks) (era.new.number + 1)
         (frame_of era.old.number (images_of D.image site.old.disks) (Rests D.ledger site.old.disks site.new.disks)) (images_of D.image site.new.disks) result }
 
     ensures no_stop { IfOk result IsNoStop }
+    ensures tellable { IfOk result IsTellable }
     ensures era { era.new.number ≤ era.old.number + 3 }
     ensures era_later { era.old.number + 1 ≤ era.new.number }
     ensures key { era.new.key ≡ era.old.key }
@@ -141,11 +145,59 @@ fn run_init<D: Disk>(
     }
 }
 
-/// Does what a form asks for; its own word stands at a place. `-D` isn't built yet, and is refused there.
+/// Shows a space of a formatted site, or a page of it.
+fn run_show<D: Disk>(
+    alloc: Global,
+    site: &mut Site<D>,
+    era: &mut Era,
+    space: Text<19>,
+    page: Option<u32>,
+) -> Result<Report, Status>
+    requires cat { MayUse era.old (D.ledger site.old.disks.cat) }
+    requires log { MayUse era.old (D.ledger site.old.disks.log) }
+    requires number { era.old.number ≤ 2 ^ 63 }
+
+    ensures refused { IsTrue D.tells → IfErr result (λ status. CutsShort status ⊎ DisksRefuse (show_form space page) (contents_of D.bytes site.old.disks) status) }
+    ensures opens { IsTrue D.tells → OnOk result (IsOpenFor (show_form space page) (contents_of D.bytes site.old.disks)) }
+    ensures kept { IfErr result (λ status. CutsShort status ⊎ AreKept D.bytes D.image D.ledger site.old.disks site.new.disks) }
+
+    ensures passes { IsTrue D.tells → (world : World) → IsOpenable world → StandFor (contents_of D.bytes site.old.disks) world → (moment : ℕ) (script : List ℕ)
+        → Passes (frame_of era.old.number (images_of D.image site.old.disks) (Rests D.ledger site.old.disks site.new.disks)
+        (IsPassed world (run_form moment world script (show_form space page)))) (images_of D.image site.new.disks) }
+    ensures finishes { IsTrue D.tells → (world : World) → IsOpenable world → StandFor (contents_of D.bytes site.old.disks) world → (moment : ℕ) (script after : List ℕ)
+        → Finishes false (run_form moment world script (show_form space page)) after (contents_of D.bytes site.new.disks) (era.new.number + 1)
+        (frame_of era.old.number (images_of D.image site.old.disks) (Rests D.ledger site.old.disks site.new.disks)) (images_of D.image site.new.disks) result }
+
+    ensures no_stop { IfOk result IsNoStop }
+    ensures tellable { IfOk result IsTellable }
+    ensures era { era.new.number ≤ era.old.number + 2 }
+    ensures era_later { era.old.number + 1 ≤ era.new.number }
+    ensures key { era.new.key ≡ era.old.key }
+    ensures cat_may { MayUse era.new (D.ledger site.new.disks.cat) }
+    ensures log_may { MayUse era.new (D.ledger site.new.disks.log) }
+    ensures others { site.new.disks ≡ record site.old.disks { cat = site.new.disks.cat; log = site.new.disks.log } }
+    ensures cat_read { (D.ledger site.new.disks.cat).read ≤ (D.ledger site.old.disks.cat).read + 4096 }
+    ensures cat_written { (D.ledger site.new.disks.cat).written ≤ (D.ledger site.old.disks.cat).written }
+    ensures log_read { (D.ledger site.new.disks.log).read ≤ (D.ledger site.old.disks.log).read + 16916480 }
+    ensures log_written { (D.ledger site.new.disks.log).written ≤ (D.ledger site.old.disks.log).written }
+    ensures no_read_fault { IsErrOf result Status.ReadFault → ⊥ }
+    ensures no_write_fault { IsErrOf result Status.WriteFault → ⊥ }
+    ensures disk_fault { (name : DiskName) → IsErrOf result (Status.DiskFault name) → ((name ≡ DiskName.Cat) × Rose (D.ledger site.old.disks.cat).faults (D.ledger site.new.disks.cat).faults)
+        ⊎ ((name ≡ DiskName.Log) × Rose (D.ledger site.old.disks.log).faults (D.ledger site.new.disks.log).faults) }
+{
+    let mut buffer = [0; 4096];
+    let Some(head) = find_head(alloc, site, era, &mut buffer)? else {
+        return Err(Status::NotFormatted);
+    };
+    let log = &mut site.disks.log;
+    let shown = show_log(alloc, &head, log, era, &mut buffer, space, page)?;
+    Ok(Report::Shown(shown))
+}
+
+/// Does what a form asks for.
 fn run_form<D: Disk, S: Source>(
     alloc: Global,
     form: Form,
-    at: u32,
     site: &mut Site<D>,
     era: &mut Era,
     source: &mut S,
@@ -156,20 +208,19 @@ fn run_form<D: Disk, S: Source>(
     requires moment { moment ≤ 2 ^ 48 }
     requires fits { FitsASite form }
 
-    ensures usage { is_shown (form_in form) ≡ true → IsErrOf result (Status.Usage at) × (site.new ≡ site.old) × (source.new ≡ source.old) }
-    ensures refused { IsTrue D.tells → is_shown (form_in form) ≡ false → IfErr result (λ status. CutsShort status
-        ⊎ DisksRefuse (form_in form) (contents_of D.bytes site.old.disks) status) }
+    ensures refused { IsTrue D.tells → IfErr result (λ status. CutsShort status ⊎ DisksRefuse (form_in form) (contents_of D.bytes site.old.disks) status) }
     ensures opens { IsTrue D.tells → OnOk result (IsOpenFor (form_in form) (contents_of D.bytes site.old.disks)) }
     ensures kept { IfErr result (λ status. CutsShort status ⊎ AreKept D.bytes D.image D.ledger site.old.disks site.new.disks) }
 
     ensures passes { IsTrue D.tells → IsTrue S.tells → (world : World) → IsOpenable world → StandFor (contents_of D.bytes site.old.disks) world
         → Passes (frame_of era.old.number (images_of D.image site.old.disks) (Rests D.ledger site.old.disks site.new.disks)
-        (IsPassed world (run_form moment world (S.left source.old) at (form_in form)))) (images_of D.image site.new.disks) }
+        (IsPassed world (run_form moment world (S.left source.old) (form_in form)))) (images_of D.image site.new.disks) }
     ensures finishes { IsTrue D.tells → IsTrue S.tells → (world : World) → IsOpenable world → StandFor (contents_of D.bytes site.old.disks) world
-        → Finishes (is_transactions (form_in form)) (run_form moment world (S.left source.old) at (form_in form)) (S.left source.new) (contents_of D.bytes site.new.disks) (era.new.number + 1)
+        → Finishes (is_transactions (form_in form)) (run_form moment world (S.left source.old) (form_in form)) (S.left source.new) (contents_of D.bytes site.new.disks) (era.new.number + 1)
         (frame_of era.old.number (images_of D.image site.old.disks) (Rests D.ledger site.old.disks site.new.disks)) (images_of D.image site.new.disks) result }
 
     ensures no_stop { IfOk result IsNoStop }
+    ensures tellable { IfOk result IsTellable }
     ensures era { era.new.number ≤ era.old.number + 16777220 }
     ensures era_later { era.old.number ≤ era.new.number }
     ensures key { era.new.key ≡ era.old.key }
@@ -178,7 +229,9 @@ fn run_form<D: Disk, S: Source>(
     ensures cat_read { (D.ledger site.new.disks.cat).read ≤ (D.ledger site.old.disks.cat).read + 4097 }
     ensures cat_written { (D.ledger site.new.disks.cat).written ≤ (D.ledger site.old.disks.cat).written + 4098 }
     ensures cat_unwritten { is_transactions (form_in form) ≡ true → (D.ledger site.new.disks.cat).written ≤ (D.ledger site.old.disks.cat).written }
-    ensures log_read { (D.ledger site.new.disks.log).read ≤ (D.ledger site.old.disks.log).read + 8458240 }
+    ensures log_read { (D.ledger site.new.disks.log).read ≤ (D.ledger site.old.disks.log).read + 16916480 }
+    ensures log_read_once { is_show (form_in form) ≡ false → (D.ledger site.new.disks.log).read ≤ (D.ledger site.old.disks.log).read + 8458240 }
+    ensures shows_unwritten { is_show (form_in form) ≡ true → (name : DiskName) → written_of D.ledger site.new.disks name ≤ written_of D.ledger site.old.disks name }
     ensures log_formatted { is_transactions (form_in form) ≡ false → (D.ledger site.new.disks.log).written ≤ (D.ledger site.old.disks.log).written + 77826 }
     ensures log_written { IsTrue D.tells → IsTrue S.tells → is_transactions (form_in form) ≡ true
         → (world : World) → IsOpenable world → StandFor (contents_of D.bytes site.old.disks) world
@@ -194,17 +247,7 @@ fn run_form<D: Disk, S: Source>(
     match form {
         Form::Init { blocks, spaces } => run_init(alloc, site, era, blocks, spaces, moment),
         Form::Transactions => run_transactions(alloc, site, era, source, moment),
-        Form::Show { .. } => Err(Status::Usage(at)),
-    }
-}
-
-/// The place of the form's own word.
-fn form_word(words: &[String]) -> u32
-    ensures { result ≡ form_at (map string_bytes words.now) }
-{
-    match words {
-        [option, ..] if option.as_str() == "-j" => 3,
-        _ => 1,
+        Form::Show { space, page } => run_show(alloc, site, era, space, page),
     }
 }
 
@@ -222,7 +265,7 @@ pub fn run_words<D: Disk, S: Source>(
     requires number { era.old.number ≤ 2 ^ 63 }
     requires moment { moment ≤ 2 ^ 48 }
 
-    ensures usage { (n : ℕ) → usage_word (map string_bytes words.now) ≡ Some n
+    ensures usage { (n : ℕ) → command_of (map string_bytes words.now) ≡ Err n
         → ((IsErrOf result (Status.Usage n)) ⊎ (IsErrOf result Status.OutOfMemory)) × (site.new ≡ site.old) × (source.new ≡ source.old) }
     ensures refused { IsTrue D.tells → IfErr result (λ status. CutsShort status
         ⊎ (IsUsage (map string_bytes words.now) status ⊎ IsRefused (map string_bytes words.now) (contents_of D.bytes site.old.disks) status)) }
@@ -240,6 +283,7 @@ pub fn run_words<D: Disk, S: Source>(
         (frame_of era.old.number (images_of D.image site.old.disks) (Rests D.ledger site.old.disks site.new.disks)) (images_of D.image site.new.disks) result }
 
     ensures no_stop { IfOk result IsNoStop }
+    ensures tellable { IfOk result IsTellable }
     ensures era { era.new.number ≤ era.old.number + 16777220 }
     ensures era_later { era.old.number ≤ era.new.number }
     ensures key { era.new.key ≡ era.old.key }
@@ -248,7 +292,11 @@ pub fn run_words<D: Disk, S: Source>(
     ensures cat_read { (D.ledger site.new.disks.cat).read ≤ (D.ledger site.old.disks.cat).read + 4097 }
     ensures cat_written { (D.ledger site.new.disks.cat).written ≤ (D.ledger site.old.disks.cat).written + 4098 }
     ensures cat_unwritten { reads_script (command_of (map string_bytes words.now)) ≡ true → (D.ledger site.new.disks.cat).written ≤ (D.ledger site.old.disks.cat).written }
-    ensures log_read { (D.ledger site.new.disks.log).read ≤ (D.ledger site.old.disks.log).read + 8458240 }
+    ensures log_read { (D.ledger site.new.disks.log).read ≤ (D.ledger site.old.disks.log).read + 16916480 }
+    ensures log_read_once { shows_pages (command_of (map string_bytes words.now)) ≡ false
+        → (D.ledger site.new.disks.log).read ≤ (D.ledger site.old.disks.log).read + 8458240 }
+    ensures shows_unwritten { shows_pages (command_of (map string_bytes words.now)) ≡ true
+        → (name : DiskName) → written_of D.ledger site.new.disks name ≤ written_of D.ledger site.old.disks name }
     ensures log_formatted { reads_script (command_of (map string_bytes words.now)) ≡ false
         → (D.ledger site.new.disks.log).written ≤ (D.ledger site.old.disks.log).written + 77826 }
     ensures log_written { IsTrue D.tells → IsTrue S.tells → reads_script (command_of (map string_bytes words.now)) ≡ true
@@ -263,10 +311,7 @@ pub fn run_words<D: Disk, S: Source>(
         → Rose (faults_of D.ledger site.old.disks name) (faults_of D.ledger site.new.disks name) }
 {
     match read_words(alloc, words) {
-        Ok(order) => {
-            let at = form_word(words);
-            run_form(alloc, order.form, at, site, era, source, moment)
-        }
+        Ok(order) => run_form(alloc, order.form, site, era, source, moment),
         Err(WordFault::At(word)) => Err(Status::Usage(word)),
         Err(WordFault::OutOfMemory) => Err(Status::OutOfMemory),
     }

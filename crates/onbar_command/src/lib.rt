@@ -15,6 +15,7 @@ mod replay;
 mod report;
 mod running;
 mod script;
+mod showing;
 mod site;
 mod text;
 mod transactions;

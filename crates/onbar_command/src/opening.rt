@@ -1,5 +1,6 @@
 // Opening the log: its header, its gates and its records.
-ghost use Rattle.std.specs.Prelude.{◌≡◌, ◌⊎◌, ◌+◌, ◌*◌, ◌/◌, ◌%◌, ◌<◌, ◌≤◌, ◌^◌, ◌↔◌, ℕ, length, reverse, None, Some, if◌then◌else◌, nat_lt, IsTrue, IfOk, OnOk, IfErr, IsErrOf};
+ghost use Rattle.std.specs.Prelude.{◌≡◌, ◌⊎◌, ◌+◌, ◌*◌, ◌/◌, ◌%◌, ◌<◌, ◌≤◌, ◌^◌, ◌↔◌, [], ℕ, length, reverse, None, Some, if◌then◌else◌, nat_lt, IsTrue, IfOk, OnOk, IfErr, IsErrOf};
+ghost use Rattle.std.specs.List.{AllByRecursion};
 ghost use Rattle.log_history.specs.History.{History};
 ghost use Rattle.gated_slots.specs.Slots.{place_of};
 ghost use Rattle.site_disk.specs.Bytes.{extent, Same};
@@ -10,14 +11,13 @@ ghost use Rattle.site_headers.specs.Headers.{HasHeader, log_tail};
 ghost use Rattle.site_model.specs.Layouts.{log_area};
 ghost use Rattle.site_model.specs.Openings.{AllGoBack, IsBadPlace, LogRefuses};
 ghost use Rattle.onbar_command.specs.Extending.{log_status};
-ghost use Rattle.onbar_command.specs.Replays.{IsStateOf};
+ghost use Rattle.onbar_command.specs.Replays.{IsSameViews, IsStateOf, LiesWithin};
 ghost use Rattle.onbar_command.specs.Openings.{open_fault_of, IsDeviceOrMemory, IsOpened, IsReadWhole, RecordsComeTo, RunComesTo};
 
 use crate::replay::{LogState, ReplayFault};
 use gated_slots::{Slots, header_read};
 use site_disk::{Disk, Era, Failed};
 use site_headers::is_log_header;
-use std::alloc::Global;
 
 /// Where the gates of the log begin.
 const GATES: u64 = 8_192;
@@ -74,9 +74,12 @@ fn take_next_run<D: Disk>(
     requires within { state.old.end + length run.old / 128 ≤ slots.now.used }
     requires few { slots.now.used ≤ 65536 }
     requires time { state.old.time ≤ 2 ^ 48 }
+    requires patches { AllByRecursion LiesWithin state.old.open }
 
     ensures end { OnOk result (state.new.end ≡ state.old.end + length run.old / 128) }
     ensures bounded { state.new.time ≤ 2 ^ 48 }
+    ensures patches { AllByRecursion LiesWithin state.new.open }
+    ensures view { IsSameViews state.old.view state.new.view }
     ensures taken { IsTrue D.tells → place_of slots.now.area state.old.end + length run.old ≤ length (D.bytes disk.old)
         → (past : History) → IsStateOf past state.old → AllGoBack (reverse past)
         → RunComesTo past (extent (place_of slots.now.area state.old.end) (length run.old) (D.bytes disk.old)) state.new result }
@@ -99,9 +102,10 @@ fn take_next_run<D: Disk>(
     }
 }
 
-/// Reads the records of the first slots used, as many as are held, each slot once, with a buffer of whole slots.
+/// Reads the records of the first slots used, as many as are held, each slot once, with a buffer of whole slots. The state is
+/// that of an empty log.
 fn read_records<D: Disk>(
-    alloc: Global,
+    mut state: LogState,
     disk: &mut D,
     era: &Era,
     slots: &Slots,
@@ -112,9 +116,11 @@ fn read_records<D: Disk>(
     requires area { slots.now.area ≡ log_area }
     requires held { held ≤ slots.now.used }
     requires used { slots.now.used ≤ 65536 }
+    requires empty { IsStateOf [] state }
 
-    ensures end { IfOk result (λ state. state.end ≡ held) }
-    ensures bounded { IfOk result (λ state. state.time ≤ 2 ^ 48) }
+    ensures view { IfOk result (λ read. IsSameViews state.view read.view) }
+    ensures end { IfOk result (λ read. read.end ≡ held) }
+    ensures bounded { IfOk result (λ read. read.time ≤ 2 ^ 48) }
     ensures records { IsTrue D.tells → 73728 + 128 * held ≤ length (D.bytes disk.old) → RecordsComeTo (D.bytes disk.old) held result }
 
     ensures bytes { OnOk result (D.bytes disk.new ≡ D.bytes disk.old) }
@@ -124,7 +130,6 @@ fn read_records<D: Disk>(
     ensures ledger { Uses era.now (128 * held) 0 (D.ledger disk.old) (D.ledger disk.new) }
     ensures failed { IsErrOf result OpenFault.Failed → Rose (D.ledger disk.old).faults (D.ledger disk.new).faults }
 {
-    let mut state = LogState::new(alloc);
     while state.end < held {
         let count = (held - state.end).min(32) as usize;
         take_next_run(disk, era, slots, &mut state, &mut buffer[..128 * count])?;
@@ -170,9 +175,9 @@ pub struct OpenLog {
     pub state: LogState,
 }
 
-/// Reads the slots of a log with a header whose disk has so many bytes, from its gates on.
+/// Reads the slots of a log with a header whose disk has so many bytes, from its gates on. The state is that of an empty log.
 fn read_log<D: Disk>(
-    alloc: Global,
+    state: LogState,
     disk: &mut D,
     era: &Era,
     len: u64,
@@ -180,7 +185,9 @@ fn read_log<D: Disk>(
 ) -> Result<OpenLog, OpenFault>
     requires era { MayUse era.now (D.ledger disk.old) }
     requires long { 73728 ≤ len }
+    requires empty { IsStateOf [] state }
 
+    ensures view { IfOk result (λ log. IsSameViews state.view log.state.view) }
     ensures area { IfOk result (λ log. log.slots.area ≡ log_area) }
     ensures end { IfOk result (λ log. (log.state.end ≡ log.slots.used) × (log.slots.used ≤ 65536)) }
     ensures bounded { IfOk result (λ log. log.state.time ≤ 2 ^ 48) }
@@ -199,23 +206,26 @@ fn read_log<D: Disk>(
     slots.open(disk, era)?;
     let used = slots.used() as u64;
     let held = used.min((len - SLOTS) / 128);
-    let state = read_records(alloc, disk, era, &slots, held, buffer)?;
+    let state = read_records(state, disk, era, &slots, held, buffer)?;
     match bad_slot(&state, used) {
         Some(slot) => Err(OpenFault::BadRecord { slot }),
         None => Ok(OpenLog { slots, state }),
     }
 }
 
-/// Opens the log of a site. The buffer is room for a page.
+/// Opens the log of a site. The state is that of an empty log, whose view is brought forward to the log's end. The buffer is
+/// room for a page.
 pub fn open_log<D: Disk>(
-    alloc: Global,
+    state: LogState,
     disk: &mut D,
     era: &Era,
     site: u64,
     buffer: &mut [u8; 4096],
 ) -> Result<OpenLog, OpenFault>
-    requires { MayUse era.now (D.ledger disk.old) }
+    requires era { MayUse era.now (D.ledger disk.old) }
+    requires empty { IsStateOf [] state }
 
+    ensures view { IfOk result (λ log. IsSameViews state.view log.state.view) }
     ensures area { IfOk result (λ log. log.slots.area ≡ log_area) }
     ensures end { IfOk result (λ log. (log.state.end ≡ log.slots.used) × (log.slots.used ≤ 65536)) }
     ensures bounded { IfOk result (λ log. log.state.time ≤ 2 ^ 48) }
@@ -235,5 +245,5 @@ pub fn open_log<D: Disk>(
     if len < SLOTS {
         return Err(OpenFault::BadRecord { slot: NO_SLOT });
     }
-    read_log(alloc, disk, era, len, buffer)
+    read_log(state, disk, era, len, buffer)
 }

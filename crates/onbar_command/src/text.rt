@@ -100,6 +100,11 @@ pub fn status_line(alloc: Global, status: &Status) -> Result<String, AllocError>
             let name = disk_name_text(alloc, *disk)?;
             format!(in alloc; "bad record in {name} at slot {slot}\n")
         }
+        Status::NoSuchSpace(name) => {
+            let name = name.as_str();
+            format!(in alloc; "no such space {name}\n")
+        }
+        Status::NoSuchPage(page) => format!(in alloc; "no such page {page}\n"),
         Status::LogLost => String::from_str(alloc, "log lost\n"),
         Status::LogFull(full) => full_line(alloc, *full),
         _ => Ok(String::new(alloc)),

@@ -20,5 +20,6 @@ pub use cutting::{LineFault, Lines};
 pub use laws::numbers_are_decimal;
 pub use onbar_grammar::Why;
 pub use site_headers::SpaceHead;
+pub use spaces::find_space;
 pub use txn_lines::{TxnLine, read_txn_line};
 pub use words::{Form, Order, WordFault, read_words};

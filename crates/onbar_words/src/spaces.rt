@@ -6,7 +6,7 @@ ghost use Rattle.onbar_words.specs.SpaceHead.{spaces_of};
 use site_headers::SpaceHead;
 
 /// The place of the space with a name, and its number of pages.
-pub(crate) fn find_space(name: &[u8], spaces: &[SpaceHead]) -> Option<(u16, u32)>
+pub fn find_space(name: &[u8], spaces: &[SpaceHead]) -> Option<(u16, u32)>
     requires { length spaces.now ≤ 16 }
     ensures { result ≡ place_of name.now (spaces_of spaces.now) }
 {

@@ -2,9 +2,10 @@
 use Rattle.std.proofs.Common.{◌≡◌, ℕ, zero, suc, ◌+◌, ◌-◌, ◌<◌, Bool, true, false, cond, ◌&&◌, List, [], ◌∷◌, ◌++◌, length, take, map, reverse, get_or, Option, Some, refl, sym, ap, ◌∙◌, arith, slice_get}
 use Rattle.std.specs.List.{filter, flat_map}
 use Rattle.std.proofs.lemmas.List.{take-map, length-map}
-use Rattle.log_history.specs.History.{Entry, History, entry_at, positions}
+use Rattle.log_history.specs.History.{Entry, History, commit, entry_at, positions}
 use Rattle.log_history.specs.Live.{live}
 use Rattle.log_history.specs.Effects.{Change, change_by, changes, is_commit, writes, writes_of, writes_back}
+use Rattle.log_history.specs.Transactions.{open_back}
 use Rattle.log_record.specs.declared.records.Record.{Record}
 use Rattle.log_record.specs.declared.records.Record.TheVariants.{Begin, Write, Commit, Abort, Reset}
 use Rattle.log_record.specs.Entry.{entry_of, history_of}
@@ -37,14 +38,27 @@ pub changes_at-other : (records : List Record) (i n : ℕ) (r : Record) → i < 
 changes_at-other records i n r below read h =
     ap (brought (history_of records) n (i + 1)) (entry_here records i r below read) ∙ rw (not_commit r h) refl
 
-pub changes_at-commit : (records : List Record) (i n txn time : ℕ) (r : Record) → i < length records → r ≡ get_or records i r → r ≡ Commit txn time
+-- what a Commit that is live brings into effect
+changes_at-live : (records : List Record) (i n txn time : ℕ) (r : Record) → i < length records → r ≡ get_or records i r → r ≡ Commit txn time
     → live (history_of records) n (i + 1) ≡ true
-    → changes_at (history_of records) n (i + 1) ≡ map (change_by (i + 1)) (writes_back txn (reverse (history_of (take i records))))
-changes_at-commit records i n txn time r below read is alive =
+    → changes_at (history_of records) n (i + 1) ≡ map (change_by (i + 1)) (writes_of (Some (commit txn time)) (reverse (history_of (take i records))))
+changes_at-live records i n txn time r below read is alive =
     let before : take (i + 1 - 1) (history_of records) ≡ history_of (take i records) =
     ap (λ (k : ℕ). take k (history_of records)) (omega arith) ∙ take-map entry_of i records in
     ap (brought (history_of records) n (i + 1)) (entry_here records i r below read ∙ ap (λ (x : Record). Some (entry_of x)) is)
     ∙ rw (alive, before) refl
+
+pub changes_at-commit : (records : List Record) (i n txn time : ℕ) (r : Record) → i < length records → r ≡ get_or records i r → r ≡ Commit txn time
+    → live (history_of records) n (i + 1) ≡ true → open_back txn (reverse (history_of (take i records))) ≡ true
+    → changes_at (history_of records) n (i + 1) ≡ map (change_by (i + 1)) (writes_back txn (reverse (history_of (take i records))))
+changes_at-commit records i n txn time r below read is alive running =
+    changes_at-live records i n txn time r below read is alive ∙ rw running refl
+
+pub changes_at-not_open : (records : List Record) (i n txn time : ℕ) (r : Record) → i < length records → r ≡ get_or records i r → r ≡ Commit txn time
+    → live (history_of records) n (i + 1) ≡ true → open_back txn (reverse (history_of (take i records))) ≡ false
+    → changes_at (history_of records) n (i + 1) ≡ []
+changes_at-not_open records i n txn time r below read is alive ended =
+    changes_at-live records i n txn time r below read is alive ∙ rw ended refl
 
 flat_map-filter : {X A : Type 0} (f : X → List A) (p : X → Bool) (xs : List X) → flat_map f (filter p xs) ≡ flat_map (λ x. cond (p x) (f x) []) xs
 flat_map-filter f p [] = refl

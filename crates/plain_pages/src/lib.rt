@@ -9,6 +9,6 @@ mod replay;
 #[cfg(test)]
 mod tests;
 
-pub use live::is_live;
+pub use live::{is_live, is_open};
 pub use page::Page;
 pub use replay::page_of_log;

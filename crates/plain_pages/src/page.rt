@@ -12,24 +12,29 @@ pub struct Page {
     pub payload: [u8; 4080],
 }
 
-/// A page never written.
-#[tactic(auto, unfolding(log_history::specs::Effects::empty_page))]
-pub(crate) fn empty() -> Page
-    ensures { page_of result ≡ empty_page }
-{
-    Page {
-        stamp: 0,
-        payload: [0; 4080],
+impl Page {
+    /// A page never written.
+    #[tactic(auto, unfolding(log_history::specs::Effects::empty_page))]
+    pub fn empty() -> Page
+        ensures { page_of result ≡ empty_page }
+    {
+        Page {
+            stamp: 0,
+            payload: [0; 4080],
+        }
     }
-}
 
-/// The page with bytes laid at an offset, and with this stamp.
-pub(crate) fn laid(mut page: Page, stamp: u64, offset: u16, bytes: &[u8]) -> Page
-    requires { offset + length bytes.now ≤ 4080 }
-    ensures { page_of result ≡ record { stamp = stamp; payload = (take offset page.payload ++ bytes.now ++ drop (offset + length bytes.now) page.payload) } }
-{
-    let from = usize::from(offset);
-    page.payload[from..from + bytes.len()].copy_from_slice(bytes);
-    page.stamp = stamp;
-    page
+    /// Lays bytes at an offset of the payload, by the Commit at this position.
+    pub fn lay(&mut self, commit: u64, offset: u16, bytes: &[u8])
+        requires { offset + length bytes.now ≤ 4080 }
+        ensures { page_of self.new ≡ record {
+          stamp = commit;
+          payload =
+              take offset self.old.payload ++ bytes.now ++ drop (offset + length bytes.now) self.old.payload;
+        } }
+    {
+        let from = usize::from(offset);
+        self.payload[from..from + bytes.len()].copy_from_slice(bytes);
+        self.stamp = commit;
+    }
 }

@@ -5,8 +5,7 @@ ghost use Rattle.log_record.specs.Layout.{IsRecord};
 ghost use Rattle.log_record.specs.Entry.{entry_of, history_of};
 ghost use Rattle.plain_pages.specs.Page.{page_of, changes_at, one_record_on};
 
-use crate::page::{empty, laid};
-use crate::{Page, is_live};
+use crate::{Page, is_live, is_open};
 use log_record::Record;
 
 /// The page of a space at position `n` of the history of these records.
@@ -14,7 +13,7 @@ pub fn page_of_log(records: &[Record], n: u64, space: u16, number: u32) -> Page
     requires { All (λ r. IsRecord (entry_of r)) records.now }
     ensures { page_of result ≡ page_at (history_of records.now) n space number }
 {
-    let mut page = empty();
+    let mut page = Page::empty();
     for i in 0..records.len() {
         page = with_position(page, records, i, n, space, number);
     }
@@ -32,6 +31,9 @@ fn with_position(page: Page, records: &[Record], i: usize, n: u64, space: u16, n
     };
     let commit = i as u64 + 1;
     if !is_live(records, n, commit) {
+        return page;
+    }
+    if !is_open(&records[..i], *txn) {
         return page;
     }
     committed(&page, &records[..i], *txn, commit, space, number)
@@ -60,7 +62,7 @@ fn committed(
 /// The page one record on: a Begin goes back to the base.
 fn with_record(
     base: &Page,
-    page: Page,
+    mut page: Page,
     entry: &Record,
     txn: u32,
     commit: u64,
@@ -79,7 +81,8 @@ fn with_record(
             offset,
             bytes,
         } if *other == txn && *written == space && *at == number => {
-            laid(page, commit, *offset, bytes.as_bytes())
+            page.lay(commit, *offset, bytes.as_bytes());
+            page
         }
         _ => page,
     }

@@ -1,9 +1,9 @@
-//! Worked histories: two transactions at once, a Write at the payload's end, a Reset.
+//! Worked histories: two transactions at once, a Write at the payload's end, a Commit of one that isn't open, a Reset.
 ghost use Rattle.std.specs.Prelude.{◌+◌, ◌<◌, ◌≤◌, length, All, IfSome, OnOk};
 ghost use Rattle.log_record.specs.Layout.{IsRecord};
 ghost use Rattle.log_record.specs.Entry.{entry_of};
 
-use crate::{is_live, page_of_log};
+use crate::{is_live, is_open, page_of_log};
 use log_record::{Record, Text64};
 use std::alloc::AllocError;
 use std::process::Abort;
@@ -78,6 +78,22 @@ fn the_last_byte(rt: HostRuntime) -> Result<(), Fail> {
     add(&mut log, write(3, 4079, b"Z").ok_or("Z")?)?;
     add(&mut log, Record::Commit { txn: 3, time: 0 })?;
     check(&rt, log.as_slice(), 3, 3, 4079, *b"Z\0");
+    Ok(())
+}
+
+#[test]
+fn a_commit_of_none_open(rt: HostRuntime) -> Result<(), Fail> {
+    let mut log = Vec::new(rt.alloc());
+    add(&mut log, Record::Begin { txn: 1 })?;
+    add(&mut log, write(1, 0, b"A").ok_or("A")?)?;
+    add(&mut log, Record::Commit { txn: 1, time: 1 })?;
+    add(&mut log, write(1, 0, b"B").ok_or("B")?)?;
+    add(&mut log, Record::Commit { txn: 1, time: 2 })?;
+    let all = log.as_slice();
+    assert_eq!(rt; all.len(), 5);
+    assert!(rt; is_open(&all[..2], 1));
+    assert!(rt; !is_open(all, 1));
+    check(&rt, all, 5, 3, 0, *b"A\0");
     Ok(())
 }
 

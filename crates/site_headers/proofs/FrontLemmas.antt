@@ -5,7 +5,7 @@ use Rattle.std.proofs.lemmas.List.{take-append-drop, drop-drop, length-drop}
 use Rattle.std.proofs.lemmas.List.Elements.{All-same, All-replicate}
 use Rattle.std.proofs.Math.Seq.{take-add}
 use Rattle.bsa_descriptor.proofs.Padding.{zeros_are_replicated}
-use Rattle.site_headers.specs.Headers.{header_tail, no_own, volume_own, log_tail, volume_tail, IsVolumeSize, HasHeader}
+use Rattle.site_headers.specs.Headers.{header_tail, no_own, volume_own, log_tail, spare_tail, volume_tail, IsVolumeSize, HasHeader}
 use Rattle.site_headers.specs.Parts.{HasFront, HasVolumeSize}
 use Rattle.site_headers.specs.HeaderLaws.{length-header_tail, HasHeader-page, page-HasHeader}
 
@@ -52,6 +52,12 @@ pub log_page : (site n : ℕ) → n ≡ 4080
     → (1 ∷ codes "OBS" ++ 4 ∷ 1 ∷ [] ++ to_be_bytes w16 0 ++ to_be_bytes w64 site) ++ replicate {A = ℕ} n 0 ≡ 1 ∷ log_tail site
 unfolding header_tail no_own
 log_page site n e = ap (λ (k : ℕ). (1 ∷ codes "OBS" ++ 4 ∷ 1 ∷ [] ++ to_be_bytes w16 0 ++ to_be_bytes w64 site) ++ replicate {A = ℕ} k 0) e
+
+-- and the spare disk's
+pub spare_page : (site n : ℕ) → n ≡ 4080
+    → (1 ∷ codes "OBS" ++ 2 ∷ 1 ∷ [] ++ to_be_bytes w16 0 ++ to_be_bytes w64 site) ++ replicate {A = ℕ} n 0 ≡ 1 ∷ spare_tail site
+unfolding header_tail no_own
+spare_page site n e = ap (λ (k : ℕ). (1 ∷ codes "OBS" ++ 2 ∷ 1 ∷ [] ++ to_be_bytes w16 0 ++ to_be_bytes w64 site) ++ replicate {A = ℕ} k 0) e
 
 -- a volume's own bytes by their parts
 pub HasVolumeSize-own : (page : List ℕ) (blocks : ℕ) → length page ≡ 4096 → HasVolumeSize page blocks → drop 16 page ≡ volume_own blocks

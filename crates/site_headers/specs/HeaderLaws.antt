@@ -9,7 +9,7 @@ use Rattle.onbar_grammar.specs.Script.{Space}
 use Rattle.site_disk.specs.Bytes.{extent}
 use Rattle.site_disk.specs.BytesLaws.{extent-extent}
 use Rattle.site_headers.specs.Heads.{Head, IsHead}
-use Rattle.site_headers.specs.Headers.{header_tail, space_bytes, catalogue_own, no_own, volume_own, catalogue_tail, log_tail, volume_tail, HasHeader}
+use Rattle.site_headers.specs.Headers.{header_tail, space_bytes, catalogue_own, no_own, volume_own, catalogue_tail, log_tail, spare_tail, volume_tail, HasHeader}
 use Rattle.site_headers.specs.SpaceLaws.{length-spaces, same_number16, same_number32, same_number64, same_spaces}
 
 pub length-header_tail : (kind number site : ℕ) (own : List ℕ) → length own ≡ 4080 → length (header_tail kind number site own) ≡ 4095
@@ -22,6 +22,9 @@ length-no_own = length-replicate {A = ℕ} 4080 0
 
 pub length-log_tail : (site : ℕ) → length (log_tail site) ≡ 4095
 length-log_tail site = length-header_tail 4 0 site no_own length-no_own
+
+pub length-spare_tail : (site : ℕ) → length (spare_tail site) ≡ 4095
+length-spare_tail site = length-header_tail 2 0 site no_own length-no_own
 
 length-volume_own : (blocks : ℕ) → length (volume_own blocks) ≡ 4080
 unfolding volume_own

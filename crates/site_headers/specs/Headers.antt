@@ -33,6 +33,10 @@ catalogue_tail head = header_tail 1 0 head.site (catalogue_own head)
 abbrev pub log_tail : ℕ → List ℕ
 log_tail site = header_tail 4 0 site no_own
 
+-- the spare disk is kind 2
+abbrev pub spare_tail : ℕ → List ℕ
+spare_tail site = header_tail 2 0 site no_own
+
 -- a volume's own bytes: 16 its blocks
 unfoldable pub volume_own : ℕ → List ℕ
 volume_own blocks = to_be_bytes w32 blocks ++ replicate 4076 0

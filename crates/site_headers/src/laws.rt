@@ -2,7 +2,7 @@
 ghost use Rattle.std.specs.Prelude.{◌≡◌, ◌<◌, ◌≤◌, ◌∷◌, ℕ, List, length};
 ghost use Rattle.site_disk.specs.Bytes.{extent};
 ghost use Rattle.site_headers.specs.Heads.{Head, IsHead};
-ghost use Rattle.site_headers.specs.Headers.{catalogue_tail, log_tail, volume_tail, HasHeader};
+ghost use Rattle.site_headers.specs.Headers.{catalogue_tail, log_tail, spare_tail, volume_tail, HasHeader};
 
 /// A page is the catalogue's header of at most one site.
 pub fn one_catalogue_header()
@@ -12,6 +12,7 @@ pub fn one_catalogue_header()
 /// A header fills its page: behind the gate come 4,095 bytes.
 pub fn header_fills_its_page()
     ensures log { (site : ℕ) → length (log_tail site) ≡ 4095 }
+    ensures spare { (site : ℕ) → length (spare_tail site) ≡ 4095 }
     ensures volume { (number site blocks : ℕ) → length (volume_tail number site blocks) ≡ 4095 }
     ensures catalogue { (head : Head) → IsHead head → length (catalogue_tail head) ≡ 4095 }
 {}

@@ -14,6 +14,7 @@ mod log;
 mod names;
 mod sizes;
 mod spaces;
+mod spare;
 #[cfg(test)]
 mod tests;
 mod volume;
@@ -22,4 +23,5 @@ pub use catalogue::{read_catalogue_header, write_catalogue_header};
 pub use heads::{SiteHead, SpaceHead};
 pub use laws::{header_fills_its_page, header_is_the_first_page, one_catalogue_header};
 pub use log::{is_log_header, write_log_header};
+pub use spare::{is_spare_header, write_spare_header};
 pub use volume::{read_volume_header, write_volume_header};

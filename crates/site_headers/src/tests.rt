@@ -137,6 +137,21 @@ fn a_log_header_keeps_each_rule(rt: HostRuntime) {
 }
 
 #[test]
+fn a_spare_header_keeps_each_rule(rt: HostRuntime) {
+    let site = 0x0102_0304_0506_0708;
+    let mut by_hand = log_by_hand();
+    by_hand[4] = 2;
+    let mut page = [0xff; 4096];
+    write_spare_header(site, &mut page);
+    assert_eq!(rt; page.as_slice(), by_hand.as_slice());
+    assert!(rt; is_spare_header(&page, site));
+    assert!(rt; !is_spare_header(&page, site + 1));
+    assert!(rt; !is_spare_header(&log_by_hand(), site));
+    page[4095] = 1;
+    assert!(rt; !is_spare_header(&page, site));
+}
+
+#[test]
 fn a_volume_header_keeps_each_rule(rt: HostRuntime) {
     let site = 0x0102_0304_0506_0708;
     let mut page = [0xff; 4096];

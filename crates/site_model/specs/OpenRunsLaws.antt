@@ -9,7 +9,7 @@ use Rattle.log_history.specs.History.{Entry, History, begin, write, commit, abor
 use Rattle.log_history.specs.Transactions.{Table, table_of, after, refusal, unless_new, lookup}
 use Rattle.txn_table.specs.TableLaws.{reverse_push, table_of-push}
 use Rattle.onbar_grammar.specs.declared.Why.{Why}
-use Rattle.onbar_grammar.specs.Script.{Raw, Space, Line, begin_line, write_line, commit_line, abort_line, line_fault, line_of, entry_of_line, spelled, raw_lines}
+use Rattle.onbar_grammar.specs.Script.{Raw, Space, Line, begin_line, write_line, commit_line, abort_line, line_fault, line_of, entry_of_line, spelled, raw_lines, place_of}
 use Rattle.onbar_grammar.specs.Words.{CommandForm, init_form, transactions_form, show_form}
 use Rattle.site_headers.specs.Heads.{IsHead}
 use Rattle.site_model.specs.declared.status.Status.{Status}
@@ -17,7 +17,7 @@ use Rattle.site_model.specs.declared.status.Status.TheVariants.{Ok as Done, Scri
 use Rattle.site_model.specs.declared.status.LogFull.TheVariants.{Positions}
 use Rattle.site_model.specs.Commands.{IsAmong, IsPassed}
 use Rattle.site_model.specs.Openings.{GoesBack, AllGoBack, is_stray, stray_back, first_stray, CanOpen, IsOpenable, IsOpenableSite}
-use Rattle.site_model.specs.Runs.{Collected, Place, Ending, Outcome, goes_on, ends, Taken, nothing, joined, bad, unless_refused, join, take_meaning, take_text, ended, ends_at, appended, is_full, after_batch, after_taken, after_fault, step_line, go_on, run_lines, first_place, head_at, run_form, transactions}
+use Rattle.site_model.specs.Runs.{Collected, Place, Ending, Outcome, goes_on, ends, Taken, nothing, joined, bad, unless_refused, join, take_meaning, take_text, ended, ends_at, appended, is_full, after_batch, after_taken, after_fault, step_line, go_on, run_lines, first_place, head_at, run_form, transactions, show_refusal, shown_text, unless_unshown}
 use Rattle.site_model.specs.Spelled.{AllByRecursion-append}
 use Rattle.site_model.specs.Worlds.{Site, World, unformatted, formatted, with_history}
 
@@ -206,29 +206,39 @@ MakesAHead moment (init_form blocks spaces) = IsHead (head_at moment blocks spac
 MakesAHead moment transactions_form = Unit {0}
 MakesAHead moment (show_form space page) = Unit {0}
 
+showing_open : (site : Site) (text : List ℕ) (refusal_of : Option Status) → IsOpenableSite site → (other : World)
+    → IsPassed (formatted site) (unless_unshown site text refusal_of) other → IsOpenable other
+showing_open site text (Some status) opens other is = ⊎_elim (λ begin_world. subst IsOpenable (sym begin_world) opens) (λ none. absurd none) is
+showing_open site text None opens other is = ⊎_elim (λ begin_world. subst IsOpenable (sym begin_world) opens) (λ none. absurd none) is
+
+showing_end_open : (site : Site) (text : List ℕ) (refusal_of : Option Status) → IsOpenableSite site → IsOpenable (unless_unshown site text refusal_of).last
+showing_end_open site text (Some status) opens = opens
+showing_end_open site text None opens = opens
+
 -- each world of the run of a form can be opened
-pub run_form_open : (moment : ℕ) (world : World) (script : List ℕ) (at : ℕ) (form : CommandForm) → MakesAHead moment form → IsOpenable world
-    → (other : World) → IsPassed world (run_form moment world script at form) other → IsOpenable other
-run_form_open moment unformatted script at (init_form blocks spaces) head opens other is = ⊎_elim
+pub run_form_open : (moment : ℕ) (world : World) (script : List ℕ) (form : CommandForm) → MakesAHead moment form → IsOpenable world
+    → (other : World) → IsPassed world (run_form moment world script form) other → IsOpenable other
+run_form_open moment unformatted script (init_form blocks spaces) head opens other is = ⊎_elim
     (λ begin_world. subst IsOpenable (sym begin_world) tt)
     (λ there. ⊎_elim (λ made. subst IsOpenable (sym made) (record { head = head; log = record { back = tt; no_stray = refl } })) (λ none. absurd none) there)
     is
-run_form_open moment (formatted site) script at (init_form blocks spaces) head opens other is =
+run_form_open moment (formatted site) script (init_form blocks spaces) head opens other is =
     ⊎_elim (λ begin_world. subst IsOpenable (sym begin_world) opens) (λ none. absurd none) is
-run_form_open moment unformatted script at transactions_form head opens other is =
+run_form_open moment unformatted script transactions_form head opens other is =
     ⊎_elim (λ begin_world. subst IsOpenable (sym begin_world) opens) (λ none. absurd none) is
-run_form_open moment (formatted site) script at transactions_form head opens other is = transactions_open moment site script opens other is
-run_form_open moment unformatted script at (show_form space page) head opens other is =
+run_form_open moment (formatted site) script transactions_form head opens other is = transactions_open moment site script opens other is
+run_form_open moment unformatted script (show_form name page) head opens other is =
     ⊎_elim (λ begin_world. subst IsOpenable (sym begin_world) opens) (λ none. absurd none) is
-run_form_open moment (formatted site) script at (show_form space page) head opens other is =
-    ⊎_elim (λ begin_world. subst IsOpenable (sym begin_world) opens) (λ none. absurd none) is
+run_form_open moment (formatted site) script (show_form name page) head opens other is =
+    showing_open site (shown_text site.history name page (place_of name site.head.spaces)) (show_refusal site.head.spaces name page) opens other is
 
 -- and so can the last one
-pub run_form_end_open : (moment : ℕ) (world : World) (script : List ℕ) (at : ℕ) (form : CommandForm) → MakesAHead moment form → IsOpenable world
-    → IsOpenable (run_form moment world script at form).last
-run_form_end_open moment unformatted script at (init_form blocks spaces) head opens = record { head = head; log = record { back = tt; no_stray = refl } }
-run_form_end_open moment (formatted site) script at (init_form blocks spaces) head opens = opens
-run_form_end_open moment unformatted script at transactions_form head opens = opens
-run_form_end_open moment (formatted site) script at transactions_form head opens = transactions_end_open moment site script opens
-run_form_end_open moment unformatted script at (show_form space page) head opens = opens
-run_form_end_open moment (formatted site) script at (show_form space page) head opens = opens
+pub run_form_end_open : (moment : ℕ) (world : World) (script : List ℕ) (form : CommandForm) → MakesAHead moment form → IsOpenable world
+    → IsOpenable (run_form moment world script form).last
+run_form_end_open moment unformatted script (init_form blocks spaces) head opens = record { head = head; log = record { back = tt; no_stray = refl } }
+run_form_end_open moment (formatted site) script (init_form blocks spaces) head opens = opens
+run_form_end_open moment unformatted script transactions_form head opens = opens
+run_form_end_open moment (formatted site) script transactions_form head opens = transactions_end_open moment site script opens
+run_form_end_open moment unformatted script (show_form name page) head opens = opens
+run_form_end_open moment (formatted site) script (show_form name page) head opens =
+    showing_end_open site (shown_text site.history name page (place_of name site.head.spaces)) (show_refusal site.head.spaces name page) opens

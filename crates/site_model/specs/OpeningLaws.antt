@@ -12,8 +12,8 @@ use Rattle.log_record.specs.LayoutLaws.{one_spelling_of, length-spelling}
 use Rattle.txn_table.specs.OrderLaws.{may_follow_not_refused}
 use Rattle.txn_table.specs.TableLaws.{reverse_push}
 use Rattle.site_disk.specs.Bytes.{extent}
-use Rattle.std.specs.Prelude.{Result, Ok}
-use Rattle.onbar_grammar.specs.Words.{Command, CommandForm, init_form, transactions_form, show_form, command_of, form_at}
+use Rattle.std.specs.Prelude.{Result, Ok, Err}
+use Rattle.onbar_grammar.specs.Words.{Command, CommandForm, init_form, transactions_form, show_form, command_of}
 use Rattle.site_headers.specs.Heads.{Head, IsHead}
 use Rattle.site_headers.specs.Headers.{HasHeader, log_tail, catalogue_tail}
 use Rattle.site_headers.specs.HeaderLaws.{one_catalogue_header}
@@ -21,10 +21,10 @@ use Rattle.site_model.specs.declared.disk_name.DiskName.{DiskName}
 use Rattle.site_model.specs.declared.disk_name.DiskName.TheVariants.{Cat, Log}
 use Rattle.site_model.specs.declared.status.Status.{Status}
 use Rattle.site_model.specs.declared.status.Status.TheVariants.{BadRecord}
-use Rattle.site_model.specs.Runs.{is_shown, usage_of, usage_word}
+use Rattle.site_model.specs.Runs.{show_refusal}
 use Rattle.gated_slots.specs.Slots.{used}
 use Rattle.site_model.specs.Layouts.{HoldsLog, StandFor, log_area}
-use Rattle.site_model.specs.Openings.{GoesBack, AllGoBack, is_stray, stray_back, first_stray, CanOpen, IsOpenableSite, IsOpenable, Reads, IsBadSlot, IsStraySlot, IsBadPlace, LogRefuses, DisksRefuse, IsOpenFor, OpensFor, IsRefused}
+use Rattle.site_model.specs.Openings.{GoesBack, AllGoBack, is_stray, stray_back, first_stray, CanOpen, IsOpenableSite, IsOpenable, Reads, IsBadSlot, IsStraySlot, IsBadPlace, LogRefuses, ShowRefuses, DisksRefuse, IsOpenFor, OpensFor, IsRefused}
 use Rattle.site_model.specs.Spelled.{AllByRecursion-append_right, length-spelled, spelled_part}
 use Rattle.site_model.specs.Worlds.{Site, World, unformatted, formatted, IsFitSite, IsFit}
 
@@ -207,6 +207,19 @@ one_log_refusal site file a b first second = ⊎_elim
     (λ other. bad.1.2 ∙ ap (λ (n : ℕ). BadRecord Log n) (one_bad_place file bad.1.0 other.1.0 bad.1.1 other.1.1) ∙ sym other.1.2) second)
     first
 
+some_none_status : (status : Status) → ◌≡◌ {A = Option Status} (Some status) None → ⊥
+some_none_status status is = cc is
+
+one_show_refusal : (head : Head) (name : List ℕ) (page : Option ℕ) (log : List ℕ) (a b : Status)
+    → ShowRefuses head name page log a → ShowRefuses head name page log b → a ≡ b
+one_show_refusal head name page log a b first second = ⊎_elim
+    (λ is. ⊎_elim (λ other. one_of (sym is ∙ other)) (λ other. absurd (some_none_status a (sym is ∙ other.0))) second)
+    (λ is. ⊎_elim (λ other. absurd (some_none_status b (sym other ∙ is.0))) (λ other. one_log_refusal head.site log a b is.1 other.1) second)
+    first
+  where
+    one_of : ◌≡◌ {A = Option Status} (Some a) (Some b) → a ≡ b
+    one_of is = cc is
+
 one_form_refusal : (form : CommandForm) (contents : DiskName → List ℕ) (a b : Status) → DisksRefuse form contents a → DisksRefuse form contents b → a ≡ b
 one_form_refusal (init_form blocks spaces) contents a b first second = first.1 ∙ sym second.1
 one_form_refusal transactions_form contents a b first second = ⊎_elim
@@ -216,7 +229,13 @@ one_form_refusal transactions_form contents a b first second = ⊎_elim
     let same = one_head has.0 other.0 (contents Cat) has.1 other.1 has.2 other.2 in
     one_log_refusal other.0.site (contents Log) a b (subst (λ (h : Head). LogRefuses h.site (contents Log) a) same has.3) other.3) second)
     first
-one_form_refusal (show_form space page) contents a b first second = absurd first
+one_form_refusal (show_form name page) contents a b first second = ⊎_elim
+    (λ none. ⊎_elim (λ other. none.1 ∙ sym other.1) (λ has. absurd (none.0 has.0 has.1 has.2)) second)
+    (λ has. ⊎_elim (λ none. absurd (none.0 has.0 has.1 has.2))
+    (λ other.
+    let same = one_head has.0 other.0 (contents Cat) has.1 other.1 has.2 other.2 in
+    one_show_refusal other.0 name page (contents Log) a b (subst (λ (h : Head). ShowRefuses h name page (contents Log) a) same has.3) other.3) second)
+    first
 
 one_command : (words : List (List ℕ)) (a b : Command) → command_of words ≡ Ok a → command_of words ≡ Ok b → a ≡ b
 one_command words a b first second = same (sym first ∙ second)
@@ -239,7 +258,14 @@ open_form_unrefused transactions_form contents status opens refuses = ⊎_elim
     let there = subst (λ (h : Head). LogRefuses h.site (contents Log) status) same has.3 in
     ⊎_elim (λ lost. lost.0 (opens.2 Log).header) (λ bad. none_bad_place opens.0 (contents Log) (opens.2 Log) opens.1.log bad.1.0 bad.1.1) there)
     refuses
-open_form_unrefused (show_form space page) contents status opens refuses = opens
+open_form_unrefused (show_form name page) contents status opens refuses = ⊎_elim
+    (λ none. none.0 opens.0.head opens.1.head (opens.2 Cat))
+    (λ has.
+    let same = one_head has.0 opens.0.head (contents Cat) has.1 opens.1.head has.2 (opens.2 Cat) in
+    let there = subst (λ (h : Head). ShowRefuses h name page (contents Log) status) same has.3 in
+    ⊎_elim (λ unshown. some_none_status status (sym unshown ∙ opens.3)) (λ refuses_log.
+    ⊎_elim (λ lost. lost.0 (opens.2 Log).header) (λ bad. none_bad_place opens.0 (contents Log) (opens.2 Log) opens.1.log bad.1.0 bad.1.1) refuses_log.1) there)
+    refuses
 
 -- disks that hold what the words need aren't refused
 pub opens_unrefused : (words : List (List ℕ)) (contents : DiskName → List ℕ) → OpensFor words contents → (status : Status) → IsRefused words contents status → ⊥
@@ -248,17 +274,14 @@ opens_unrefused words contents opens status refused =
     open_form_unrefused opens.0.form contents status opens.2 (subst (λ (c : Command). DisksRefuse c.form contents status) same refused.2)
 
 -- nor does a command that is refused at a word come to its disks
-pub usage_unrefused : (words : List (List ℕ)) (contents : DiskName → List ℕ) (n : ℕ) → usage_word words ≡ Some n → (status : Status) → IsRefused words contents status → ⊥
-usage_unrefused words contents n usage status refused =
-    by refused.0.form (sym (ap (λ (r : Result Command ℕ). usage_of (form_at words) r) refused.1) ∙ usage) refused.2
+pub usage_unrefused : (words : List (List ℕ)) (contents : DiskName → List ℕ) (n : ℕ) → command_of words ≡ Err n → (status : Status) → IsRefused words contents status → ⊥
+usage_unrefused words contents n usage status refused = err_ok n refused.0 (sym usage ∙ refused.1)
   where
-    by : (form : CommandForm) → (if is_shown form then Some (form_at words) else None) ≡ Some n → DisksRefuse form contents status → ⊥
-    by (init_form blocks spaces) is refuses = cc is
-    by transactions_form is refuses = cc is
-    by (show_form space page) is refuses = refuses
+    err_ok : (m : ℕ) (c : Command) → ◌≡◌ {A = Result Command ℕ} (Err m) (Ok c) → ⊥
+    err_ok m c is = cc is
 
 -- they stand for a world then
 pub opens_for_some : (form : CommandForm) (contents : DiskName → List ℕ) → IsOpenFor form contents → (world : World) × IsOpenable world × StandFor contents world
 opens_for_some (init_form blocks spaces) contents opens = (unformatted, tt, opens)
 opens_for_some transactions_form contents opens = (formatted opens.0, opens.1, opens.2)
-opens_for_some (show_form space page) contents opens = absurd opens
+opens_for_some (show_form name page) contents opens = (formatted opens.0, opens.1, opens.2)

@@ -1,5 +1,5 @@
 -- What the bytes of a site's disks refuse: a log that can't be opened, and a form that can't be begun.
-use Rattle.std.specs.Prelude.{◌≡◌, ◌⊎◌, ℕ, ◌+◌, ◌*◌, ◌<◌, ◌≤◌, List, [], ◌∷◌, length, reverse, Bool, false, if◌then◌else◌, Option, None, Some, Ok}
+use Rattle.std.specs.Prelude.{◌≡◌, ◌⊎◌, ℕ, ◌+◌, ◌*◌, ◌<◌, ◌≤◌, List, [], ◌∷◌, length, reverse, Bool, false, if◌then◌else◌, Option, None, Some, Ok, Err}
 use Rattle.std.specs.List.{AllByRecursion, flat_map}
 use Rattle.std.specs.Option.{option_or, is_some}
 use Rattle.log_history.specs.History.{Entry, History, begin, reset}
@@ -13,9 +13,9 @@ use Rattle.onbar_grammar.specs.Words.{Command, CommandForm, command_of, init_for
 use Rattle.site_model.specs.declared.disk_name.DiskName.{DiskName}
 use Rattle.site_model.specs.declared.disk_name.DiskName.TheVariants.{Cat, Log}
 use Rattle.site_model.specs.declared.status.Status.{Status}
-use Rattle.site_model.specs.declared.status.Status.TheVariants.{Usage, NotFormatted, AlreadyFormatted, BadRecord, LogLost}
+use Rattle.site_model.specs.declared.status.Status.TheVariants.{Usage, NotFormatted, AlreadyFormatted, BadRecord, NoSuchSpace, NoSuchPage, LogLost}
 use Rattle.site_model.specs.Layouts.{HasNoCatalogue, StandFor, log_area}
-use Rattle.site_model.specs.Runs.{usage_word}
+use Rattle.site_model.specs.Runs.{show_refusal}
 use Rattle.site_model.specs.Worlds.{Site, World, unformatted, formatted}
 
 -- a Reset goes back to a position before its own; so many records stand before it
@@ -93,13 +93,20 @@ LogRefuses site file status =
 abbrev pub HasCatalogue : List ℕ → Type 0
 HasCatalogue file = (head : Head) × IsHead head × HasHeader (catalogue_tail head) file
 
+-- why a site doesn't show a space or a page: it has no such one, or its log can't be opened
+abbrev pub ShowRefuses : Head → List ℕ → Option ℕ → List ℕ → Status → Type 0
+ShowRefuses head name page log status =
+    (show_refusal head.spaces name page ≡ Some status) ⊎ ((show_refusal head.spaces name page ≡ None) × LogRefuses head.site log status)
+
 -- why a form is refused for what its disks hold
 abbrev pub DisksRefuse : CommandForm → (DiskName → List ℕ) → Status → Type 0
 DisksRefuse (init_form blocks spaces) contents status = HasCatalogue (contents Cat) × (status ≡ AlreadyFormatted)
 DisksRefuse transactions_form contents status =
     (HasNoCatalogue (contents Cat) × (status ≡ NotFormatted))
     ⊎ ((head : Head) × IsHead head × HasHeader (catalogue_tail head) (contents Cat) × LogRefuses head.site (contents Log) status)
-DisksRefuse (show_form space page) contents status = ⊥
+DisksRefuse (show_form name page) contents status =
+    (HasNoCatalogue (contents Cat) × (status ≡ NotFormatted))
+    ⊎ ((head : Head) × IsHead head × HasHeader (catalogue_tail head) (contents Cat) × ShowRefuses head name page (contents Log) status)
 
 -- the words are a form, and it is refused for what the disks hold
 abbrev pub IsRefused : List (List ℕ) → (DiskName → List ℕ) → Status → Type 0
@@ -109,14 +116,15 @@ IsRefused words contents status = (command : Command) × (command_of words ≡ O
 abbrev pub IsOpenFor : CommandForm → (DiskName → List ℕ) → Type 0
 IsOpenFor (init_form blocks spaces) contents = StandFor contents unformatted
 IsOpenFor transactions_form contents = (site : Site) × IsOpenableSite site × StandFor contents (formatted site)
-IsOpenFor (show_form space page) contents = ⊥
+IsOpenFor (show_form name page) contents =
+    (site : Site) × IsOpenableSite site × StandFor contents (formatted site) × (show_refusal site.head.spaces name page ≡ None)
 
 abbrev pub OpensFor : List (List ℕ) → (DiskName → List ℕ) → Type 0
 OpensFor words contents = (command : Command) × (command_of words ≡ Ok command) × IsOpenFor command.form contents
 
 -- the command is refused at a word
 abbrev pub IsUsage : List (List ℕ) → Status → Type 0
-IsUsage words status = (n : ℕ) × (usage_word words ≡ Some n) × (status ≡ Usage n)
+IsUsage words status = (n : ℕ) × (command_of words ≡ Err n) × (status ≡ Usage n)
 
 -- the statuses of a form that is refused for what the disks hold
 abbrev pub IsOfDisks : Status → Type 0
@@ -124,4 +132,6 @@ IsOfDisks NotFormatted = Unit {0}
 IsOfDisks AlreadyFormatted = Unit {0}
 IsOfDisks LogLost = Unit {0}
 IsOfDisks (BadRecord disk slot) = Unit {0}
+IsOfDisks (NoSuchSpace name) = Unit {0}
+IsOfDisks (NoSuchPage n) = Unit {0}
 IsOfDisks status = ⊥

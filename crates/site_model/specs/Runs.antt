@@ -5,10 +5,13 @@ use Rattle.log_history.specs.History.{Entry, History, commit, reset}
 use Rattle.log_history.specs.Transactions.{Table, table_of, after, refusal, last_time, Refusal, already_open, not_open, too_many_open}
 use Rattle.onbar_grammar.specs.declared.Why.{Why}
 use Rattle.onbar_grammar.specs.declared.Why.TheVariants.{AlreadyOpen, NotOpen, TooManyOpen}
-use Rattle.onbar_grammar.specs.Script.{Raw, spelled, raw_lines, line_fault, Line, begin_line, write_line, commit_line, abort_line, Space, entry_of_line, line_of}
-use Rattle.onbar_grammar.specs.Words.{Command, CommandForm, init_form, transactions_form, show_form, command_of, form_at}
+use Rattle.onbar_grammar.specs.Script.{Raw, spelled, raw_lines, line_fault, Line, begin_line, write_line, commit_line, abort_line, Space, entry_of_line, line_of, place_of}
+use Rattle.onbar_grammar.specs.Words.{Command, CommandForm, init_form, transactions_form, show_form, command_of}
+use Rattle.log_history.specs.Effects.{page_at}
+use Rattle.space_pages.specs.Pages.{pages_of}
+use Rattle.page_texts.specs.Texts.{page_text, pages_text}
 use Rattle.site_model.specs.declared.status.Status.{Status}
-use Rattle.site_model.specs.declared.status.Status.TheVariants.{Ok as Done, Usage, ScriptFault, NotFormatted, AlreadyFormatted, LogFull}
+use Rattle.site_model.specs.declared.status.Status.TheVariants.{Ok as Done, Usage, ScriptFault, NotFormatted, AlreadyFormatted, NoSuchSpace, NoSuchPage, LogFull}
 use Rattle.site_model.specs.declared.status.LogFull.TheVariants.{Positions}
 use Rattle.site_headers.specs.Heads.{Head}
 use Rattle.site_model.specs.Worlds.{Site, World, unformatted, formatted, new_site, with_history}
@@ -154,11 +157,6 @@ is_transactions (init_form blocks spaces) = false
 is_transactions transactions_form = true
 is_transactions (show_form space page) = false
 
-abbrev pub is_shown : CommandForm → Bool
-is_shown (init_form blocks spaces) = false
-is_shown transactions_form = false
-is_shown (show_form space page) = true
-
 -- a refusal before any work
 abbrev pub refused : World → Status → Run
 refused world status = record { passed = []; last = world; status = status; text = status_text status }
@@ -189,29 +187,46 @@ formatting moment blocks spaces =
       text = flat_map space_text spaces ++ status_text Done;
     }
 
--- What a form makes of a world; its own word stands at a place. `-D` isn't built yet, and is refused there.
-abbrev pub run_form : ℕ → World → List ℕ → ℕ → CommandForm → Run
-run_form moment unformatted script at (init_form blocks spaces) = formatting moment blocks spaces
-run_form moment (formatted site) script at (init_form blocks spaces) = refused (formatted site) AlreadyFormatted
-run_form moment unformatted script at transactions_form = refused unformatted NotFormatted
-run_form moment (formatted site) script at transactions_form = transactions moment site script
-run_form moment world script at (show_form space page) = refused world (Usage at)
+-- why a site shows no such space or page, which stands at a place and has a number of pages
+abbrev pub place_refusal : List ℕ → Option ℕ → Option (ℕ × ℕ) → Option Status
+place_refusal name page None = Some (NoSuchSpace name)
+place_refusal name None (Some place) = None
+place_refusal name (Some number) (Some place) = if nat_lt number place.1 then None else Some (NoSuchPage number)
 
-abbrev pub run_command : ℕ → World → List ℕ → ℕ → Result Command ℕ → Run
-run_command moment world script at (Err n) = refused world (Usage n)
-run_command moment world script at (Ok command) = run_form moment world script at command.form
+abbrev pub show_refusal : List Space → List ℕ → Option ℕ → Option Status
+show_refusal spaces name page = place_refusal name page (place_of name spaces)
 
--- what the words make of a world, at a moment and with a script
+-- the space with a name at the end of a log, or one page of it
+abbrev pub shown_text : History → List ℕ → Option ℕ → Option (ℕ × ℕ) → List ℕ
+shown_text history name page None = []
+shown_text history name None (Some place) = pages_text place.0 name (pages_of history (length history) place.0 0 place.1)
+shown_text history name (Some number) (Some place) = page_text name number (page_at history (length history) place.0 number)
+
+abbrev pub unless_unshown : Site → List ℕ → Option Status → Run
+unless_unshown site text (Some status) = refused (formatted site) status
+unless_unshown site text None = record { passed = []; last = formatted site; status = Done; text = text ++ status_text Done }
+
+-- `-D` over a formatted site
+abbrev pub showing : Site → List ℕ → Option ℕ → Run
+showing site name page =
+    unless_unshown site (shown_text site.history name page (place_of name site.head.spaces)) (show_refusal site.head.spaces name page)
+
+-- what a form makes of a world, at a moment and with a script
+abbrev pub run_form : ℕ → World → List ℕ → CommandForm → Run
+run_form moment unformatted script (init_form blocks spaces) = formatting moment blocks spaces
+run_form moment (formatted site) script (init_form blocks spaces) = refused (formatted site) AlreadyFormatted
+run_form moment unformatted script transactions_form = refused unformatted NotFormatted
+run_form moment (formatted site) script transactions_form = transactions moment site script
+run_form moment unformatted script (show_form name page) = refused unformatted NotFormatted
+run_form moment (formatted site) script (show_form name page) = showing site name page
+
+abbrev pub run_command : ℕ → World → List ℕ → Result Command ℕ → Run
+run_command moment world script (Err n) = refused world (Usage n)
+run_command moment world script (Ok command) = run_form moment world script command.form
+
+-- what the words make of a world
 abbrev pub run : List (List ℕ) → ℕ → World → List ℕ → Run
-run words moment world script = run_command moment world script (form_at words) (command_of words)
-
--- the word at which a command is refused before it uses a disk: the first that can't stand, or that of a form that isn't built
-abbrev pub usage_of : ℕ → Result Command ℕ → Option ℕ
-usage_of at (Err n) = Some n
-usage_of at (Ok command) = if is_shown command.form then Some at else None
-
-abbrev pub usage_word : List (List ℕ) → Option ℕ
-usage_word words = usage_of (form_at words) (command_of words)
+run words moment world script = run_command moment world script (command_of words)
 
 -- whether a form reads its script
 abbrev pub reads_script : Result Command ℕ → Bool

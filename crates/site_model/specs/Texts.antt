@@ -10,7 +10,7 @@ use Rattle.site_model.specs.declared.disk_name.DiskName.TheVariants.{Cat, Spare,
 use Rattle.site_model.specs.declared.status.LogFull.{LogFull}
 use Rattle.site_model.specs.declared.status.LogFull.TheVariants.{NotBackedUp, Needed, Positions}
 use Rattle.site_model.specs.declared.status.Status.{Status}
-use Rattle.site_model.specs.declared.status.Status.TheVariants.{Ok as Done, Usage, ScriptFault, NotFormatted, AlreadyFormatted, BadRecord, LogLost, LogFull as Full}
+use Rattle.site_model.specs.declared.status.Status.TheVariants.{Ok as Done, Usage, ScriptFault, NotFormatted, AlreadyFormatted, BadRecord, NoSuchSpace, NoSuchPage, LogLost, LogFull as Full}
 
 abbrev pub line : List ℕ → List ℕ
 line text = text ++ 10 ∷ []
@@ -73,6 +73,8 @@ status_text (ScriptFault n why) = codes "script fault at line " ++ (decimal n ++
 status_text NotFormatted = line (codes "not formatted")
 status_text AlreadyFormatted = line (codes "already formatted")
 status_text (BadRecord disk slot) = bad_record_text disk slot
+status_text (NoSuchSpace name) = codes "no such space " ++ (name ++ 10 ∷ [])
+status_text (NoSuchPage n) = codes "no such page " ++ (decimal n ++ 10 ∷ [])
 status_text LogLost = line (codes "log lost")
 status_text (Full why) = full_text why
 status_text status = []

@@ -31,8 +31,8 @@ pub fn stops_are_listed<S: Staged>()
 #[tactic(auto, using(crate::specs::OpeningLaws::fit_opens, crate::specs::OpenRunsLaws::run_form_open, crate::specs::OpenRunsLaws::run_form_end_open))]
 pub fn runs_stay_open()
     ensures fit { (world : World) → IsFit world → IsOpenable world }
-    ensures passed { (moment : ℕ) (world : World) (script : List ℕ) (at : ℕ) (form : CommandForm) → MakesAHead moment form → IsOpenable world
-        → (other : World) → IsPassed world (run_form moment world script at form) other → IsOpenable other }
-    ensures last { (moment : ℕ) (world : World) (script : List ℕ) (at : ℕ) (form : CommandForm) → MakesAHead moment form → IsOpenable world
-        → IsOpenable (run_form moment world script at form).last }
+    ensures passed { (moment : ℕ) (world : World) (script : List ℕ) (form : CommandForm) → MakesAHead moment form → IsOpenable world
+        → (other : World) → IsPassed world (run_form moment world script form) other → IsOpenable other }
+    ensures last { (moment : ℕ) (world : World) (script : List ℕ) (form : CommandForm) → MakesAHead moment form → IsOpenable world
+        → IsOpenable (run_form moment world script form).last }
 {}

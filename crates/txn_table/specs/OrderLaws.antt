@@ -222,26 +222,24 @@ order_not_refused (entry ∷ past) order = rw (order_not_refused past order.1) (
 pub in_order_not_refused : (history : History) → InOrder history → first_refusal history ≡ None
 in_order_not_refused history order = order_not_refused (reverse history) order
 
--- where a Commit may follow, the table has its Writes
-given_back : (txn time : ℕ) (past : List Entry) → refusal (commit txn time) (table_back past) ≡ None → given (commit txn time) (table_back past) ≡ writes_back txn past
-given_back txn time past ok =
-    ap patches_of (lookup-table_back txn past) ∙ by (open_back txn past) refl (sym (ap unless_open (lookup-table_back txn past)) ∙ ok) where
-      by : (b : Bool) → open_back txn past ≡ b
-          → unless_open (cond b (Some (record { txn = txn; first = begin_back txn past; patches = writes_back txn past })) None) ≡ None
-          → patches_of (cond b (Some (record { txn = txn; first = begin_back txn past; patches = writes_back txn past })) None) ≡ writes_back txn past
-      by true is open_here = refl
-      by false is open_here = cc
+-- the table has the Writes of a Commit, none where its transaction isn't open
+pub given_back : (txn time : ℕ) (past : List Entry) → given (commit txn time) (table_back past) ≡ writes_of (Some (commit txn time)) past
+given_back txn time past = ap patches_of (lookup-table_back txn past) ∙ by (open_back txn past) where
+  by : (b : Bool) → patches_of (cond b (Some (record { txn = txn; first = begin_back txn past; patches = writes_back txn past })) None)
+      ≡ cond b (writes_back txn past) []
+  by true = refl
+  by false = refl
 
 entry_behind : (front rest : History) (entry : Entry) → slice_get (front ++ entry ∷ rest) (length front) ≡ Some entry
 entry_behind [] rest entry = refl
 entry_behind (first ∷ front) rest entry = entry_behind front rest entry
 
-pub given_are_writes : (front rest : History) (txn time : ℕ) → refusal (commit txn time) (table_of front) ≡ None
+pub given_are_writes : (front rest : History) (txn time : ℕ)
     → given (commit txn time) (table_of front) ≡ writes (front ++ commit txn time ∷ rest) (suc (length front))
-given_are_writes front rest txn time ok =
+given_are_writes front rest txn time =
     let history : History = front ++ commit txn time ∷ rest in
     let before : take (suc (length front) - 1) history ≡ front = take_at front (commit txn time ∷ rest) (suc (length front) - 1) (omega arith) in
-    let told : writes history (suc (length front)) ≡ writes_back txn (reverse front) =
+    let told : writes history (suc (length front)) ≡ writes_of (Some (commit txn time)) (reverse front) =
     ap (λ (o : Option Entry). writes_of o (reverse (take (suc (length front) - 1) history))) (entry_behind front rest (commit txn time))
-    ∙ ap (λ (h : History). writes_back txn (reverse h)) before in
-    given_back txn time (reverse front) ok ∙ sym told
+    ∙ ap (λ (h : History). writes_of (Some (commit txn time)) (reverse h)) before in
+    given_back txn time (reverse front) ∙ sym told

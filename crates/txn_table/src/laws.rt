@@ -2,14 +2,14 @@
 ghost use Rattle.std.specs.Prelude.{◌≡◌, ℕ, suc, ◌∷◌, ◌++◌, length, reverse, None, MatchOption};
 ghost use Rattle.log_history.specs.History.{History, commit};
 ghost use Rattle.log_history.specs.Effects.{writes};
-ghost use Rattle.log_history.specs.Transactions.{InOrder, given, refusal, table_of};
+ghost use Rattle.log_history.specs.Transactions.{InOrder, given, table_of};
 ghost use Rattle.txn_table.specs.LowLaws.{NoneOpen, IsOldestOpen};
 ghost use Rattle.txn_table.specs.Table.{first_refusal, oldest};
 
-/// The changes that a Commit hands out are the Writes since its transaction's last Begin.
+/// The changes that a Commit hands out are the Writes since its transaction's last Begin, none where that isn't open.
 #[tactic(auto, using(crate::specs::OrderLaws::given_are_writes))]
 pub fn a_commit_gives_its_writes()
-    ensures { (front rest : History) (txn time : ℕ) → refusal (commit txn time) (table_of front) ≡ None
+    ensures { (front rest : History) (txn time : ℕ)
         → given (commit txn time) (table_of front) ≡ writes (front ++ commit txn time ∷ rest) (suc (length front)) }
 {}
 

@@ -4,7 +4,7 @@ use Rattle.site_disk.specs.Bytes.{extent}
 use Rattle.site_disk.specs.CallsLaws.{unchanged_again, uses_nothing, uses_again}
 use Rattle.block_chain.specs.Blocks.{blocks_of_runs}
 use Rattle.object_volume.specs.Objects.{place_of, places, bytes_at, object_part}
-use Rattle.object_volume.proofs.ReadingLemmas.{part_places, run_places, skips_run, reads_run, ends_in_run, nothing_left, count_found}
+use Rattle.object_volume.proofs.ReadingLemmas.{part_places, run_places, skips_run, reads_run, ends_in_run, nothing_left, count_found, kept_behind}
 use Rattle.object_volume.proofs.reading.read_object.Goals as goal
 use Rattle.object_volume.proofs.reading.read_object.Goals.{then-got-n-via-then-got-n, then-got-n-via-else-got-n+then-done-wanted}
 
@@ -17,6 +17,7 @@ loop-run-init g c =
       within = omega arith;
       least = least;
       room = refl;
+      rest = refl;
       stands = λ tells. ap (bytes_at (g.D.Disk.bytes c.args.disk.now)) (part_places c.args.at c.args.size (length c.args.into.now) c.min-wanted.result ps least
           ∙ ap (λ (k : ℕ). take k (drop c.args.at ps)) all);
       content = refl;
@@ -36,6 +37,7 @@ loop-run-preserved-then-len-skip g c =
       within = so_far.within;
       least = so_far.least;
       room = so_far.room;
+      rest = so_far.rest;
       stands = λ tells. so_far.stands tells ∙ ap (λ (l : List ℕ). take c.loop-run.done c.loop-run.into ++ l)
           (skips_run (g.D.Disk.bytes c.args.disk.now) (c.min-wanted.result - c.loop-run.done) first len c.loop-run.skip
           (places (blocks_of_runs (drop index runs))) (places (blocks_of_runs (drop (index + 1) runs))) left c.if-len-skip.true);
@@ -66,6 +68,7 @@ loop-run-preserved g c =
       within = omega (arith, so_far.within, few, got);
       least = so_far.least;
       room = omega (arith, so_far.room);
+      rest = kept_behind done c.in_ok-got.got c.read_piece.new.into c.loop-run.into c.args.into.now read.rest so_far.rest;
       stands = λ tells.
           let found = read.found tells in
           let whole = read.count tells in
@@ -125,3 +128,7 @@ returns-then-got-n-clause-count g c tells =
     let bound : c.in_ok-got.got ≤ c.min-n.result = c.in_ok-got.ensures.bound in
     count_found (c.loop-run.done + c.in_ok-got.got) c.read_piece.new.into (object_part c.args.runs.now c.args.size c.args.at (length c.args.into.now) (g.D.Disk.bytes c.args.disk.now))
     (omega (arith, so_far.within, so_far.least, so_far.room, bound)) (returns-then-got-n-clause-found g c tells)
+
+pub returns-then-got-n-clause-rest : goal.returns-then-got-n-clause-rest
+returns-then-got-n-clause-rest g c =
+    kept_behind c.loop-run.done c.in_ok-got.got c.read_piece.new.into c.loop-run.into c.args.into.now c.in_ok-got.ensures.rest c.loop-run.invariant.rest

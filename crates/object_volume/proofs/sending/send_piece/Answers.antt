@@ -37,6 +37,9 @@ listed {table = table} {object = object} sent some =
 below : {tells : Bool} {file : List ℕ} {table : Table} {object : Sending} {part message : List ℕ} → IsSent tells file table object part message → 0 < object.size % 4096 → object.last < table.blocks
 below sent some = last_below sent.stored (omega (arith, some, sent.size))
 
+pub fill_part-requires-clause-reached : goal.fill_part-requires-clause-reached
+fill_part-requires-clause-reached g c = c.requires.begun.1.reached
+
 pub returns-in_err-n-clause-crash : goal.returns-in_err-n-clause-crash
 returns-in_err-n-clause-crash g c tells =
     part_crash (c.args.object.now.size % 4096) c.args.object.now.last (blocks_of c.args.chains.now c.args.object.now.list ++ c.args.chains.now.free) c.args.disk.now c.fill_part.new.disk
@@ -126,6 +129,7 @@ returns-clause-sent g c message is =
           (piece_sent message bytes n filled.taken) (c.in_ok-put_rest.ensures.stored (message ++ take n bytes) case front);
       hashed = c.update.ensures message (subst (λ h. Holds256 h message) (sym same.1) is.hashed);
       size = ap (λ (k : ℕ). k + length bytes) (same.0 ∙ is.size) ∙ sym (length-append message bytes);
+      reached = c.in_ok-put_rest.ensures.reached;
     }
   where
     aligned : (size n : ℕ) (message bytes : List ℕ) → size ≡ length message → n ≤ length bytes → (size % 4096 + n) % 4096 ≡ 0 → length (message ++ take n bytes) % 4096 ≡ 0

@@ -40,6 +40,7 @@ loop-at-init g c =
       crash = λ tells. begins (Spares c.args.chains.now.free (length file)) (Spares c.args.chains.now.free (length file)) c.args.era.now.number
           (g.D.Disk.image c.args.disk.now) (g.D.Disk.image c.args.disk.now) (g.D.Disk.image c.args.disk.now) (λ b. spares_none c.args.chains.now.free (length file) b);
       uses = writes_again (uses_nothing c.requires.era) (uses_nothing c.requires.era) (omega arith);
+      reaches = c.requires.reached;
       bound = λ tells full. omega arith;
     }
 
@@ -76,7 +77,7 @@ loop-at-preserved g c =
           let new = w.write_run.new.disk in
           let slice = take (at - from) (drop from piece) in
           let both = length-flushed so_far new slice refl in
-          putting_at c.if-place-start.start c.if-place-start.from c.if-place-start.disk w.start-is w.from-is w.disk-is (record {
+          putting_at c.if-place-start.start c.if-place-start.from c.if-place-start.reached c.if-place-start.disk w.start-is w.from-is w.reached-is w.disk-is (record {
             done = so_far.done ++ so_far.run;
             run = block ∷ [];
             takes = more;
@@ -91,11 +92,12 @@ loop-at-preserved g c =
             spared = λ tells. flushed_spares so_far new slice refl tells w.in_ok-write_run.ensures.bytes;
             crash = λ tells. flushed_crash so_far new slice refl tells w.write_run.ensures.crash;
             uses = flushed_uses so_far new slice refl (length (so_far.done ++ so_far.run)) (omega (arith, both)) w.write_run.ensures.ledger;
+            reaches = w.in_ok-write_run.ensures.reached;
             bound = λ tells full. flushed_bound so_far new slice refl tells full w.write_run.ensures.bound;
           })
       | else-place-start w ↦
           let next : place_of block ≡ start + (at - from) = sym place ∙ w.if-place-start.false in
-          putting_at c.if-place-start.start c.if-place-start.from c.if-place-start.disk w.start-is w.from-is w.disk-is (record {
+          putting_at c.if-place-start.start c.if-place-start.from c.if-place-start.reached c.if-place-start.disk w.start-is w.from-is w.reached-is w.disk-is (record {
             done = so_far.done;
             run = so_far.run ++ block ∷ [];
             takes = subst (Takes old c.take_block-in-loop-at.new.chains c.args.list.now c.take_block-in-loop-at.new.list) (append_assoc so_far.done so_far.run (block ∷ [])) more;
@@ -110,6 +112,7 @@ loop-at-preserved g c =
             spared = so_far.spared;
             crash = so_far.crash;
             uses = so_far.uses;
+            reaches = so_far.reaches;
             bound = so_far.bound;
           })
     ]

@@ -1,37 +1,35 @@
-use Rattle.std.proofs.Common.{◌≡◌, ◌⊎◌, ◌∙◌, inl, inr, ℕ, ◌+◌, ◌<◌, ◌≤◌, List, [], ◌∷◌, None, Some, Ok, Err, true, false, refl, sym, ap, subst, arith, ⊎_elim}
+use Rattle.std.proofs.Common.{◌∙◌, inl, inr, ◌+◌, Err, false, refl, sym, subst, arith}
 use Rattle.site_headers.specs.Heads.{IsHead}
 use Rattle.site_headers.specs.Headers.{HasHeader, catalogue_tail}
 use Rattle.site_headers.specs.Views.{head_of}
 use Rattle.onbar_grammar.specs.Words.{init_form}
 use Rattle.onbar_words.specs.SpaceHead.{spaces_of}
-use Rattle.site_model.specs.declared.disk_name.DiskName.{DiskName}
-use Rattle.site_model.specs.declared.disk_name.DiskName.TheVariants.{Cat, Log}
-use Rattle.site_model.specs.declared.status.Status.{Status}
+use Rattle.site_model.specs.declared.disk_name.DiskName.TheVariants.{Cat}
 use Rattle.site_model.specs.declared.status.Status.TheVariants.{AlreadyFormatted}
 use Rattle.site_model.specs.Commands.{frame_of, IsPassed}
-use Rattle.site_model.specs.Layouts.{Shows, HasNoCatalogue}
+use Rattle.site_model.specs.Layouts.{HasNoCatalogue}
 use Rattle.site_model.specs.Runs.{refused, head_at, run_form}
 use Rattle.site_model.specs.Steps.{Passes}
-use Rattle.site_model.specs.Worlds.{Site, unformatted, formatted, new_site}
+use Rattle.site_model.specs.Worlds.{unformatted, formatted, new_site}
 use Rattle.onbar_command.specs.Disks.{contents_of, images_of, Rests}
 use Rattle.onbar_command.specs.Forms.{IsDone}
 use Rattle.onbar_command.proofs.InitLemmas.{some_of, none_of, no_more, passes_formatting}
-use Rattle.onbar_command.proofs.SiteLemmas.{moved, entered, refused_done, in_place, at_none, at_some, if_some, stand_for}
+use Rattle.onbar_command.proofs.SiteLemmas.{entered, refused_done, in_place, at_none, at_some, if_some}
 use Rattle.onbar_command.proofs.form.run_init.Goals as goal
 
 pub returns-in_err-find_head-clause-passes : goal.returns-in_err-find_head-clause-passes
-returns-in_err-find_head-clause-passes g c tells world opens stand script at =
+returns-in_err-find_head-clause-passes g c tells world opens stand script =
     let call = c.in_err-find_head.ensures in
     in_place (λ disks. Passes (frame_of c.args.era.now.number (images_of g.D.Disk.image c.args.site.now.disks) (Rests g.D.Disk.ledger c.args.site.now.disks disks)
-    (IsPassed world (run_form c.args.moment world script at (init_form c.args.blocks (spaces_of c.args.spaces.items))))) (images_of g.D.Disk.image disks)) _ _ call.others
+    (IsPassed world (run_form c.args.moment world script (init_form c.args.blocks (spaces_of c.args.spaces.items))))) (images_of g.D.Disk.image disks)) _ _ call.others
     (entered c.args.site.now.disks c.find_head.new.site.disks.cat c.find_head.new.site.disks.log g.D.Disk.bytes g.D.Disk.image g.D.Disk.ledger c.args.era.now.number
     call.cat_none call.log_none (call.cat_shows tells) (call.log_shows tells) world stand _ (inl refl))
 
 pub returns-then-is_some-clause-passes : goal.returns-then-is_some-clause-passes
-returns-then-is_some-clause-passes g c tells world opens stand script at =
+returns-then-is_some-clause-passes g c tells world opens stand script =
     let call = c.in_ok-find_head.ensures in
     in_place (λ disks. Passes (frame_of c.args.era.now.number (images_of g.D.Disk.image c.args.site.now.disks) (Rests g.D.Disk.ledger c.args.site.now.disks disks)
-    (IsPassed world (run_form c.args.moment world script at (init_form c.args.blocks (spaces_of c.args.spaces.items))))) (images_of g.D.Disk.image disks)) _ _ call.others
+    (IsPassed world (run_form c.args.moment world script (init_form c.args.blocks (spaces_of c.args.spaces.items))))) (images_of g.D.Disk.image disks)) _ _ call.others
     (entered c.args.site.now.disks c.find_head.new.site.disks.cat c.find_head.new.site.disks.log g.D.Disk.bytes g.D.Disk.image g.D.Disk.ledger c.args.era.now.number
     call.cat_none call.log_none (call.cat_shows tells) (call.log_shows tells) world stand _ (inl refl))
 
@@ -44,13 +42,13 @@ returns-then-is_some-clause-refused g c tells =
     inr ((head_of found.0, is_head, of_cat), refl)
 
 pub returns-then-is_some-clause-finishes : goal.returns-then-is_some-clause-finishes
-returns-then-is_some-clause-finishes g c tells unformatted opens stand script after at =
+returns-then-is_some-clause-finishes g c tells unformatted opens stand script after =
     let call = c.in_ok-find_head.ensures in
     let found = some_of c.in_ok-find_head.field-0 (sym c.is_some.ensures ∙ c.if-is_some.true) in
     let is_head = if_some c.in_ok-find_head.field-0 found.0 (λ h. IsHead (head_of h)) found.1 call.head in
     let of_cat = at_some c.in_ok-find_head.field-0 found.0 (HasNoCatalogue (g.D.Disk.bytes c.args.site.now.disks.cat)) (λ h. HasHeader (catalogue_tail (head_of h)) (g.D.Disk.bytes c.args.site.now.disks.cat)) found.1 (call.found tells) in
     absurd (stand Cat (head_of found.0) is_head of_cat)
-returns-then-is_some-clause-finishes g c tells (formatted site) opens stand script after at =
+returns-then-is_some-clause-finishes g c tells (formatted site) opens stand script after =
     let call = c.in_ok-find_head.ensures in
     inr (in_place (λ disks. IsDone false (refused (formatted site) AlreadyFormatted) after (contents_of g.D.Disk.bytes disks) (c.find_head.new.era.number + 1)
     (frame_of c.args.era.now.number (images_of g.D.Disk.image c.args.site.now.disks) (Rests g.D.Disk.ledger c.args.site.now.disks disks)) (images_of g.D.Disk.image disks) (Err AlreadyFormatted)) _ _ call.others
@@ -59,9 +57,9 @@ returns-then-is_some-clause-finishes g c tells (formatted site) opens stand scri
     (formatted site) stand false after AlreadyFormatted (λ is. cc is)))
 
 pub returns-in-Ok-clause-passes : goal.returns-in-Ok-clause-passes
-returns-in-Ok-clause-passes g c tells (formatted site) opens stand script at =
+returns-in-Ok-clause-passes g c tells (formatted site) opens stand script =
     absurd (at_none c.in_ok-find_head.field-0 _ _ (none_of c.in_ok-find_head.field-0 (sym c.is_some.ensures ∙ c.if-is_some.false)) (c.in_ok-find_head.ensures.found tells) site.head opens.head (stand Cat))
-returns-in-Ok-clause-passes g c tells unformatted opens stand script at =
+returns-in-Ok-clause-passes g c tells unformatted opens stand script =
     let call = c.in_ok-find_head.ensures in
     let old = c.args.site.now.disks in
     let mid = c.find_head.new.site.disks in
@@ -72,9 +70,9 @@ returns-in-Ok-clause-passes g c tells unformatted opens stand script at =
     (c.format.ensures.crash tells (λ image is. subst HasNoCatalogue (sym (call.cat_only tells c.find_head.new.era.number image (omega (arith, call.era_two)) is)) (stand Cat)))
 
 pub returns-in-Err-DiskFault-clause-passes : goal.returns-in-Err-DiskFault-clause-passes
-returns-in-Err-DiskFault-clause-passes g c tells (formatted site) opens stand script at =
+returns-in-Err-DiskFault-clause-passes g c tells (formatted site) opens stand script =
     absurd (at_none c.in_ok-find_head.field-0 _ _ (none_of c.in_ok-find_head.field-0 (sym c.is_some.ensures ∙ c.if-is_some.false)) (c.in_ok-find_head.ensures.found tells) site.head opens.head (stand Cat))
-returns-in-Err-DiskFault-clause-passes g c tells unformatted opens stand script at =
+returns-in-Err-DiskFault-clause-passes g c tells unformatted opens stand script =
     let call = c.in_ok-find_head.ensures in
     let old = c.args.site.now.disks in
     let mid = c.find_head.new.site.disks in
@@ -85,9 +83,9 @@ returns-in-Err-DiskFault-clause-passes g c tells unformatted opens stand script 
     (c.format.ensures.crash tells (λ image is. subst HasNoCatalogue (sym (call.cat_only tells c.find_head.new.era.number image (omega (arith, call.era_two)) is)) (stand Cat)))
 
 pub returns-in-Ok-clause-finishes : goal.returns-in-Ok-clause-finishes
-returns-in-Ok-clause-finishes g c tells (formatted site) opens stand script after at =
+returns-in-Ok-clause-finishes g c tells (formatted site) opens stand script after =
     absurd (at_none c.in_ok-find_head.field-0 _ _ (none_of c.in_ok-find_head.field-0 (sym c.is_some.ensures ∙ c.if-is_some.false)) (c.in_ok-find_head.ensures.found tells) site.head opens.head (stand Cat))
-returns-in-Ok-clause-finishes g c tells unformatted opens stand script after at = record {
+returns-in-Ok-clause-finishes g c tells unformatted opens stand script after = record {
   status = refl;
   text = refl;
   stands = c.in-Ok.ensures.stands tells;

@@ -1,11 +1,10 @@
-use Rattle.std.proofs.Common.{◌≡◌, ◌⊎◌, ◌∙◌, inl, inr, ℕ, ◌+◌, ◌<◌, List, None, Some, Ok, Err, true, refl, sym, ap, subst, arith, ⊎_elim}
+use Rattle.std.proofs.Common.{◌≡◌, inl, inr, ℕ, ◌+◌, ◌<◌, List, Ok, Err, true, refl, sym, subst, arith, ⊎_elim}
 use Rattle.std.proofs.lemmas.Result.{err_from_is_err_and}
 use Rattle.site_headers.specs.Headers.{HasHeader, catalogue_tail}
 use Rattle.site_headers.specs.Views.{head_of}
 use Rattle.site_model.specs.declared.disk_name.DiskName.TheVariants.{Cat, Log}
-use Rattle.site_model.specs.declared.status.Status.{Status}
 use Rattle.site_model.specs.Commands.{frame_of, IsPassed}
-use Rattle.site_model.specs.Layouts.{Shows, HoldsLog, HasNoCatalogue}
+use Rattle.site_model.specs.Layouts.{HoldsLog, HasNoCatalogue}
 use Rattle.site_model.specs.declared.status.Status.TheVariants.{NotFormatted}
 use Rattle.site_headers.specs.Heads.{IsHead}
 use Rattle.site_model.specs.Openings.{LogRefuses}
@@ -15,31 +14,30 @@ use Rattle.site_model.specs.Steps.{Passes}
 use Rattle.site_model.specs.Worlds.{Site, unformatted, formatted}
 use Rattle.onbar_command.specs.Disks.{contents_of, images_of, Rests}
 use Rattle.onbar_command.specs.declared.report.Report.TheVariants.{Extended as LogExtended}
-use Rattle.onbar_command.specs.declared.site.SiteDisks.{SiteDisks}
-use Rattle.onbar_command.specs.Forms.{IsDone, Finishes}
-use Rattle.onbar_command.proofs.SiteLemmas.{with_log, at_none, at_some, if_some, one_head, stand_for, moved, entered, refused_done, in_place, walk_of, passes_so, found_so, extended_done}
+use Rattle.onbar_command.specs.Forms.{IsDone}
+use Rattle.onbar_command.proofs.SiteLemmas.{with_log, at_none, at_some, if_some, one_head, stand_for, moved, entered, refused_done, in_place, passes_so, found_so, extended_done}
 use Rattle.onbar_command.proofs.form.run_transactions.Goals as goal
 
 pub returns-in_err-head-clause-passes : goal.returns-in_err-head-clause-passes
-returns-in_err-head-clause-passes g c tells_disk tells_source world opens stand at =
+returns-in_err-head-clause-passes g c tells_disk tells_source world opens stand =
     let call = c.in_err-head.ensures in
     in_place (λ disks. Passes (frame_of c.args.era.now.number (images_of g.D.Disk.image c.args.site.now.disks) (Rests g.D.Disk.ledger c.args.site.now.disks disks)
-    (IsPassed world (run_form c.args.moment world (g.S.Source.left c.args.source.now) at transactions_form))) (images_of g.D.Disk.image disks)) _ _ call.others
+    (IsPassed world (run_form c.args.moment world (g.S.Source.left c.args.source.now) transactions_form))) (images_of g.D.Disk.image disks)) _ _ call.others
     (entered c.args.site.now.disks c.find_head.new.site.disks.cat c.find_head.new.site.disks.log g.D.Disk.bytes g.D.Disk.image g.D.Disk.ledger c.args.era.now.number
     call.cat_none call.log_none (call.cat_shows tells_disk) (call.log_shows tells_disk) world stand _ (inl refl))
 
 pub returns-in_default-clause-passes : goal.returns-in_default-clause-passes
-returns-in_default-clause-passes g c tells_disk tells_source world opens stand at =
+returns-in_default-clause-passes g c tells_disk tells_source world opens stand =
     let call = c.in_ok-head.ensures in
     in_place (λ disks. Passes (frame_of c.args.era.now.number (images_of g.D.Disk.image c.args.site.now.disks) (Rests g.D.Disk.ledger c.args.site.now.disks disks)
-    (IsPassed world (run_form c.args.moment world (g.S.Source.left c.args.source.now) at transactions_form))) (images_of g.D.Disk.image disks)) _ _ call.others
+    (IsPassed world (run_form c.args.moment world (g.S.Source.left c.args.source.now) transactions_form))) (images_of g.D.Disk.image disks)) _ _ call.others
     (entered c.args.site.now.disks c.find_head.new.site.disks.cat c.find_head.new.site.disks.log g.D.Disk.bytes g.D.Disk.image g.D.Disk.ledger c.args.era.now.number
     call.cat_none call.log_none (call.cat_shows tells_disk) (call.log_shows tells_disk) world stand _ (inl refl))
 
 pub returns-in_default-clause-finishes : goal.returns-in_default-clause-finishes
-returns-in_default-clause-finishes g c tells_disk tells_source (formatted site) opens stand at =
+returns-in_default-clause-finishes g c tells_disk tells_source (formatted site) opens stand =
     absurd (at_none c.in_ok-head.field-0 _ _ c.in_default.is (c.in_ok-head.ensures.found tells_disk) site.head opens.head (stand Cat))
-returns-in_default-clause-finishes g c tells_disk tells_source unformatted opens stand at =
+returns-in_default-clause-finishes g c tells_disk tells_source unformatted opens stand =
     let call = c.in_ok-head.ensures in
     inr (in_place (λ disks. IsDone true (refused unformatted NotFormatted) (g.S.Source.left c.args.source.now) (contents_of g.D.Disk.bytes disks) (c.find_head.new.era.number + 1)
     (frame_of c.args.era.now.number (images_of g.D.Disk.image c.args.site.now.disks) (Rests g.D.Disk.ledger c.args.site.now.disks disks)) (images_of g.D.Disk.image disks) (Err NotFormatted)) _ _ call.others
@@ -75,10 +73,10 @@ returns-clause-opens g c tells =
     )
 
 pub returns-in_err-extended-clause-passes : goal.returns-in_err-extended-clause-passes
-returns-in_err-extended-clause-passes g c tells_disk tells_source unformatted opens stand at =
+returns-in_err-extended-clause-passes g c tells_disk tells_source unformatted opens stand =
     absurd (stand Cat (head_of c.in-Some.head) (if_some c.in_ok-head.field-0 c.in-Some.head (λ h. IsHead (head_of h)) c.in-Some.is c.in_ok-head.ensures.head)
     (at_some c.in_ok-head.field-0 c.in-Some.head (HasNoCatalogue (g.D.Disk.bytes c.args.site.now.disks.cat)) (λ h. HasHeader (catalogue_tail (head_of h)) (g.D.Disk.bytes c.args.site.now.disks.cat)) c.in-Some.is (c.in_ok-head.ensures.found tells_disk)))
-returns-in_err-extended-clause-passes g c tells_disk tells_source (formatted site) opens stand at =
+returns-in_err-extended-clause-passes g c tells_disk tells_source (formatted site) opens stand =
     let call = c.in_ok-head.ensures in
     let entry = c.args.era.now.number in
     let e = c.find_head.new.era.number in
@@ -94,7 +92,7 @@ returns-in_err-extended-clause-passes g c tells_disk tells_source (formatted sit
     let disks_are = with_log c.extend_log.new.log _ _ call.others in
     let walk = told.1 in
     in_place (λ disks. Passes (frame_of entry (images_of g.D.Disk.image c.args.site.now.disks) (Rests g.D.Disk.ledger c.args.site.now.disks disks)
-    (IsPassed (formatted site) (run_form c.args.moment (formatted site) left at transactions_form))) (images_of g.D.Disk.image disks)) _ _ disks_are
+    (IsPassed (formatted site) (run_form c.args.moment (formatted site) left transactions_form))) (images_of g.D.Disk.image disks)) _ _ disks_are
     (passes_so c.args.site.now.disks c.find_head.new.site.disks.cat c.extend_log.new.log g.D.Disk.image entry (Rests g.D.Disk.ledger c.args.site.now.disks (moved c.args.site.now.disks c.find_head.new.site.disks.cat c.extend_log.new.log)) _
     (λ f d le is. call.cat_none f d is)
     (λ f d le is. call.log_none f d (walk.earlier f d (omega (arith, call.era_two, le)) is))
@@ -103,10 +101,10 @@ returns-in_err-extended-clause-passes g c tells_disk tells_source (formatted sit
     (λ f d lt is. subst (λ (x : List ℕ). HasHeader (catalogue_tail site.head) x) (sym (call.cat_only tells_disk f d lt is)) (stand Cat)) synced))
 
 pub returns-in_err-extended-clause-finishes : goal.returns-in_err-extended-clause-finishes
-returns-in_err-extended-clause-finishes g c tells_disk tells_source unformatted opens stand at =
+returns-in_err-extended-clause-finishes g c tells_disk tells_source unformatted opens stand =
     absurd (stand Cat (head_of c.in-Some.head) (if_some c.in_ok-head.field-0 c.in-Some.head (λ h. IsHead (head_of h)) c.in-Some.is c.in_ok-head.ensures.head)
     (at_some c.in_ok-head.field-0 c.in-Some.head (HasNoCatalogue (g.D.Disk.bytes c.args.site.now.disks.cat)) (λ h. HasHeader (catalogue_tail (head_of h)) (g.D.Disk.bytes c.args.site.now.disks.cat)) c.in-Some.is (c.in_ok-head.ensures.found tells_disk)))
-returns-in_err-extended-clause-finishes g c tells_disk tells_source (formatted site) opens stand at =
+returns-in_err-extended-clause-finishes g c tells_disk tells_source (formatted site) opens stand =
     let call = c.in_ok-head.ensures in
     let entry = c.args.era.now.number in
     let e = c.find_head.new.era.number in
@@ -137,10 +135,10 @@ returns-in_err-extended-clause-log_written g c tells_disk tells_source (formatte
     omega (arith, written, call.log_written, call.era_two)
 
 pub returns-clause-passes : goal.returns-clause-passes
-returns-clause-passes g c tells_disk tells_source unformatted opens stand at =
+returns-clause-passes g c tells_disk tells_source unformatted opens stand =
     absurd (stand Cat (head_of c.in-Some.head) (if_some c.in_ok-head.field-0 c.in-Some.head (λ h. IsHead (head_of h)) c.in-Some.is c.in_ok-head.ensures.head)
     (at_some c.in_ok-head.field-0 c.in-Some.head (HasNoCatalogue (g.D.Disk.bytes c.args.site.now.disks.cat)) (λ h. HasHeader (catalogue_tail (head_of h)) (g.D.Disk.bytes c.args.site.now.disks.cat)) c.in-Some.is (c.in_ok-head.ensures.found tells_disk)))
-returns-clause-passes g c tells_disk tells_source (formatted site) opens stand at =
+returns-clause-passes g c tells_disk tells_source (formatted site) opens stand =
     let call = c.in_ok-head.ensures in
     let entry = c.args.era.now.number in
     let e = c.find_head.new.era.number in
@@ -156,7 +154,7 @@ returns-clause-passes g c tells_disk tells_source (formatted site) opens stand a
     let disks_are = with_log c.extend_log.new.log _ _ call.others in
     let walk = told.walk in
     in_place (λ disks. Passes (frame_of entry (images_of g.D.Disk.image c.args.site.now.disks) (Rests g.D.Disk.ledger c.args.site.now.disks disks)
-    (IsPassed (formatted site) (run_form c.args.moment (formatted site) left at transactions_form))) (images_of g.D.Disk.image disks)) _ _ disks_are
+    (IsPassed (formatted site) (run_form c.args.moment (formatted site) left transactions_form))) (images_of g.D.Disk.image disks)) _ _ disks_are
     (passes_so c.args.site.now.disks c.find_head.new.site.disks.cat c.extend_log.new.log g.D.Disk.image entry (Rests g.D.Disk.ledger c.args.site.now.disks (moved c.args.site.now.disks c.find_head.new.site.disks.cat c.extend_log.new.log)) _
     (λ f d le is. call.cat_none f d is)
     (λ f d le is. call.log_none f d (walk.earlier f d (omega (arith, call.era_two, le)) is))
@@ -165,10 +163,10 @@ returns-clause-passes g c tells_disk tells_source (formatted site) opens stand a
     (λ f d lt is. subst (λ (x : List ℕ). HasHeader (catalogue_tail site.head) x) (sym (call.cat_only tells_disk f d lt is)) (stand Cat)) synced))
 
 pub returns-clause-finishes : goal.returns-clause-finishes
-returns-clause-finishes g c tells_disk tells_source unformatted opens stand at =
+returns-clause-finishes g c tells_disk tells_source unformatted opens stand =
     absurd (stand Cat (head_of c.in-Some.head) (if_some c.in_ok-head.field-0 c.in-Some.head (λ h. IsHead (head_of h)) c.in-Some.is c.in_ok-head.ensures.head)
     (at_some c.in_ok-head.field-0 c.in-Some.head (HasNoCatalogue (g.D.Disk.bytes c.args.site.now.disks.cat)) (λ h. HasHeader (catalogue_tail (head_of h)) (g.D.Disk.bytes c.args.site.now.disks.cat)) c.in-Some.is (c.in_ok-head.ensures.found tells_disk)))
-returns-clause-finishes g c tells_disk tells_source (formatted site) opens stand at =
+returns-clause-finishes g c tells_disk tells_source (formatted site) opens stand =
     let call = c.in_ok-head.ensures in
     let entry = c.args.era.now.number in
     let e = c.find_head.new.era.number in
@@ -182,7 +180,7 @@ returns-clause-finishes g c tells_disk tells_source (formatted site) opens stand
     let told = c.in_ok-extended.ensures.extended tells_disk tells_source site (sym head_is) opens.log (subst (λ (x : List ℕ). HoldsLog site x) (sym call.log_bytes) (stand Log))
     (λ f d lt is. synced f d (omega (arith, call.era_two)) is) in
     let disks_are = with_log c.extend_log.new.log _ _ call.others in
-    in_place (λ disks. IsDone true (run_form c.args.moment (formatted site) left at transactions_form) (g.S.Source.left c.extend_log.new.source) (contents_of g.D.Disk.bytes disks) (c.extend_log.new.era.number + 1)
+    in_place (λ disks. IsDone true (run_form c.args.moment (formatted site) left transactions_form) (g.S.Source.left c.extend_log.new.source) (contents_of g.D.Disk.bytes disks) (c.extend_log.new.era.number + 1)
     (frame_of entry (images_of g.D.Disk.image c.args.site.now.disks) (Rests g.D.Disk.ledger c.args.site.now.disks disks)) (images_of g.D.Disk.image disks) (Ok (LogExtended c.in_ok-extended.extended))) _ _ disks_are
     (extended_done c.args.site.now.disks c.find_head.new.site.disks.cat c.extend_log.new.log g.D.Disk.bytes g.D.Disk.image entry (Rests g.D.Disk.ledger c.args.site.now.disks (moved c.args.site.now.disks c.find_head.new.site.disks.cat c.extend_log.new.log)) site c.args.moment left e c.extend_log.new.era.number
     (g.D.Disk.image c.find_head.new.site.disks.log) (g.S.Source.left c.extend_log.new.source) c.in_ok-extended.extended told

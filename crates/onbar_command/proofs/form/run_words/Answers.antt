@@ -1,4 +1,4 @@
-use Rattle.std.proofs.Common.{ℕ, map, sym, subst}
+use Rattle.std.proofs.Common.{map, sym, subst}
 use Rattle.std.specs.Prelude.{string_bytes}
 use Rattle.onbar_words.specs.Order.{command_in}
 use Rattle.site_model.specs.Commands.{IsPassed, frame_of}
@@ -12,8 +12,8 @@ use Rattle.onbar_command.proofs.form.run_words.Goals as goal
 pub returns-in-Ok-clause-refused : goal.returns-in-Ok-clause-refused
 returns-in-Ok-clause-refused g c tells =
     let call = c.run_form.ensures in
-    words_refused (map string_bytes c.args.words.now) (command_in c.in-Ok.order) c.form_word-at.result c.in-Ok.ensures.order c.form_word-at.ensures
-    (contents_of g.D.Disk.bytes c.args.site.now.disks) c.run_form.result (λ shown. (call.usage shown).0) (λ not_shown. call.refused tells not_shown)
+    words_refused (map string_bytes c.args.words.now) (command_in c.in-Ok.order) c.in-Ok.ensures.order
+    (contents_of g.D.Disk.bytes c.args.site.now.disks) c.run_form.result (call.refused tells)
 
 pub returns-in-Ok-clause-promised : goal.returns-in-Ok-clause-promised
 returns-in-Ok-clause-promised g c tells_disk tells_source world opens stand sound =
@@ -21,7 +21,7 @@ returns-in-Ok-clause-promised g c tells_disk tells_source world opens stand soun
     let new = c.run_form.new.site.disks in
     let words = map string_bytes c.args.words.now in
     let passes = subst (λ (r : Run). Passes (frame_of c.args.era.now.number (images_of g.D.Disk.image c.args.site.now.disks) (Rests g.D.Disk.ledger c.args.site.now.disks new)
-    (IsPassed world r)) (images_of g.D.Disk.image new)) (sym (run_is words (command_in c.in-Ok.order) c.form_word-at.result c.in-Ok.ensures.order c.form_word-at.ensures c.args.moment world left))
+    (IsPassed world r)) (images_of g.D.Disk.image new)) (sym (run_is words (command_in c.in-Ok.order) c.in-Ok.ensures.order c.args.moment world left))
     (c.run_form.ensures.passes tells_disk tells_source world opens stand) in
     promised_so g.D.Disk.bytes g.D.Disk.image g.D.Disk.ledger c.args.era.now (λ disk f le. g.met.D.Disk.reads_as disk f tells_disk le) g.met.D.Disk.now_counts
     c.args.site.now.disks new world (run words c.args.moment world left) c.requires.may passes sound

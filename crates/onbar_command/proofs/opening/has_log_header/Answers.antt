@@ -1,4 +1,3 @@
-use Rattle.std.proofs.Common.{◌≡◌, IsTrue}
 use Rattle.std.proofs.lemmas.Bool.{both_ways}
 use Rattle.site_headers.specs.Headers.{log_tail}
 use Rattle.site_headers.specs.HeaderLaws.{length-log_tail}

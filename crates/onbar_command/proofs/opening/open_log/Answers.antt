@@ -1,4 +1,4 @@
-use Rattle.std.proofs.Common.{arith, ◌≡◌, ◌⊎◌, ◌≤◌, ◌∙◌, ap, subst, sym, IsTrue, ℕ, List, length}
+use Rattle.std.proofs.Common.{arith, ◌≡◌, ◌⊎◌, ◌∙◌, ap, subst, sym, ℕ, List, length}
 use Rattle.std.specs.Prelude.{IfErr}
 use Rattle.site_headers.specs.Headers.{HasHeader, log_tail}
 use Rattle.site_model.specs.Openings.{LogRefuses}

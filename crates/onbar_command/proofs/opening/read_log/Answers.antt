@@ -1,4 +1,4 @@
-use Rattle.std.proofs.Common.{arith, ◌≡◌, ◌≤◌, ◌<◌, ◌*◌, ◌/◌, ◌-◌, ◌+◌, ◌∙◌, ap, subst, sym, inr, refl, Err, ℕ, List, length}
+use Rattle.std.proofs.Common.{arith, ◌≡◌, ◌+◌, ◌∙◌, ap, subst, sym, inr, refl, Err, ℕ, List, length}
 use Rattle.std.proofs.lemmas.Result.{err_from_is_err_and}
 use Rattle.gated_slots.specs.Slots.{Area, used}
 use Rattle.site_model.specs.Layouts.{log_area}

@@ -1,4 +1,4 @@
-use Rattle.std.proofs.Common.{arith, ◌≡◌, ◌≤◌, ◌*◌, ◌+◌, ◌∙◌, ap, subst, sym, ℕ, List, take, length, length-take}
+use Rattle.std.proofs.Common.{arith, ◌≡◌, ◌≤◌, ◌*◌, ◌+◌, ◌∙◌, ap, subst, sym, ℕ, take, length, length-take}
 use Rattle.std.proofs.lemmas.Result.{err_from_is_err_and}
 use Rattle.gated_slots.specs.Slots.{place_of}
 use Rattle.site_disk.specs.Bytes.{extent}
@@ -6,11 +6,12 @@ use Rattle.site_disk.specs.BytesLaws.{length-extent}
 use Rattle.onbar_command.specs.Openings.{ReadsTo}
 use Rattle.onbar_command.proofs.OpeningLemmas.{run_of, place_is, reads_none, reads_more, reading_refused}
 use Rattle.onbar_command.proofs.ReadingLemmas.{nothing_read, Unchanged-trans, same_again, MayUse-after}
+use Rattle.onbar_command.proofs.ViewLemmas.{same_views_on}
 use Rattle.onbar_command.proofs.opening.read_records.Goals as goal
 
 pub loop-state-init : goal.loop-state-init
 loop-state-init g c =
-    nothing_read _ _ _ _ _ _ _ c.requires.era c.new-state.ensures.end (omega (arith, c.new-state.ensures.time)) (reads_none _ _ c.new-state.ensures)
+    nothing_read _ _ _ _ _ _ _ c.requires.era c.requires.empty (reads_none _ _ c.requires.empty)
 
 pub loop-state-preserved : goal.loop-state-preserved
 loop-state-preserved g c =
@@ -26,6 +27,8 @@ loop-state-preserved g c =
     record {
       end = omega (arith, end, fits);
       time = call.bounded;
+      patches = call.patches;
+      view = same_views_on c.args.state.view c.loop-state.state.view c.take_next_run.new.state.view before.view call.view;
       taken = λ tells long.
           let past = before.taken tells long in
           let run = extent (place_of c.args.slots.now.area e) len (g.D.Disk.bytes c.loop-state.disk) in

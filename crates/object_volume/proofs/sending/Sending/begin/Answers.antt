@@ -19,4 +19,5 @@ returns-clause-sent c tells file part = record {
   };
   hashed = c.new.ensures;
   size = refl;
+  reached = λ told. omega arith;
 }

@@ -1,14 +1,28 @@
-use Rattle.std.proofs.Common.{◌≡◌, ℕ, ◌+◌, ◌-◌, ◌*◌, ◌/◌, ◌%◌, ◌≤◌, List, ◌++◌, length, ap, sym, ◌∙◌, subst, refl, Option}
+use Rattle.std.proofs.Common.{◌≡◌, ℕ, ◌+◌, ◌-◌, ◌*◌, ◌/◌, ◌%◌, ◌≤◌, List, ◌++◌, length, ap, sym, ◌∙◌, subst, refl, arith, Option}
 use Rattle.std.proofs.lemmas.Option.{same_Some}
 use Rattle.site_disk.specs.CallsLaws.{on_ok}
 use Rattle.block_chain.specs.Blocks.{AreApart, ArePartition, blocks_of_runs}
-use Rattle.block_chain.specs.Table.{Table, blocks_of, AreListed}
+use Rattle.block_chain.specs.Table.{Table, blocks_of, IsListOf, AreListed}
 use Rattle.object_volume.specs.declared.sending.Sending.{Sending}
 use Rattle.object_volume.specs.Objects.{place_of, blocks_for}
 use Rattle.object_volume.specs.Sending.{IsSent}
 use Rattle.object_volume.specs.Volumes.{blocks_or_none, blocks_sent}
 use Rattle.object_volume.proofs.VolumeLemmas.{same_table, live_listed, live_apart}
 use Rattle.object_volume.proofs.volume.Volume.send.Goals as goal
+
+pub returns-clause-opened : goal.returns-clause-opened
+returns-clause-opened g c =
+    let was = c.requires.opened in
+    let chains = c.in-Some.chains in
+    let new = c.send_piece.new.chains in
+    let same : was.table ≡ chains = same_Some was.table chains (sym was.opened ∙ c.in-Some.is) in
+    on_ok c.send_piece.result
+    (λ t. record {
+      table = new;
+      opened = refl;
+      small = omega (arith, was.small, ap (λ (table : Table). table.blocks) same, t.takes.blocks);
+      own = λ o is. subst (λ (x : Sending). IsListOf new x.list) (same_Some c.send_piece.new.object o is) t.takes.own;
+    }) c.send_piece.ensures.taken
 
 pub returns-clause-taken : goal.returns-clause-taken
 returns-clause-taken g c message s =

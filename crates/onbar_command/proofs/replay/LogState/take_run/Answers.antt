@@ -1,8 +1,8 @@
-use Rattle.std.proofs.Common.{arith, ◌≡◌, ◌≤◌, ◌+◌, length}
+use Rattle.std.proofs.Common.{arith, refl, ◌≡◌, length}
 use Rattle.std.proofs.lemmas.Result.{err_from_is_err_and}
 use Rattle.log_record.specs.Entry.{entry_of}
-use Rattle.onbar_command.specs.Replays.{RunIs}
 use Rattle.onbar_command.proofs.ReplayLemmas.{partway_more, partway_none, all_taken, meets_bad, no_slot}
+use Rattle.onbar_command.proofs.ViewLemmas.{same_views, same_views_on}
 use Rattle.onbar_command.proofs.replay.LogState.take_run.Goals as goal
 
 pub loop-slot-preserved : goal.loop-slot-preserved
@@ -10,12 +10,35 @@ loop-slot-preserved c = record {
   whole = omega (arith, c.loop-slot.invariant.whole, c.in-Some.ensures.cases.2);
   count = omega (arith, c.loop-slot.invariant.count, c.in-Some.ensures.cases.2, c.in_ok-take.ensures.end);
   time = c.in_ok-take.ensures.bounded;
+  patches = c.in_ok-take.ensures.patches;
+  view = same_views_on c.args.self.now.view c.loop-slot.self.view c.take.new.self.view c.loop-slot.invariant.view c.in_ok-take.ensures.same;
   taken = λ past was back.
       let found = c.in-Some-read_record.ensures.found in
       partway_more past c.args.run.now c.loop-slot.rest.now c.in-Some.slot.now c.in-Some.others.now c.loop-slot.self c.take.new.self (entry_of c.in-Some-read_record.«record»)
       (c.loop-slot.invariant.taken past was back) found.0 found.1 found.2 c.in-Some.ensures.cases.0 c.in-Some.ensures.cases.1
-      c.in_ok-take.ensures.end c.in_ok-take.ensures.time c.in_ok-take.ensures.stray c.in_ok-take.ensures.table;
+      (record {
+        end = c.in_ok-take.ensures.end;
+        time = c.in_ok-take.ensures.time;
+        stray = c.in_ok-take.ensures.stray;
+        table = c.in_ok-take.ensures.table;
+        turns = c.in_ok-take.ensures.turns;
+        view = c.in_ok-take.ensures.view;
+      });
 }
+
+pub loop-slot-init : goal.loop-slot-init
+loop-slot-init c = record {
+  whole = c.requires.whole;
+  count = refl;
+  time = c.requires.time;
+  patches = c.requires.patches;
+  view = same_views c.args.self.now.view;
+  taken = λ past was back. partway_none past c.args.run.now c.args.self.now was back;
+}
+
+pub returns-in_err-take-clause-same : goal.returns-in_err-take-clause-same
+returns-in_err-take-clause-same c =
+    same_views_on c.args.self.now.view c.loop-slot.self.view c.take.new.self.view c.loop-slot.invariant.view c.in_err-take.ensures.same
 
 pub returns-in_default-read_record-clause-taken : goal.returns-in_default-read_record-clause-taken
 returns-in_default-read_record-clause-taken c past was back =
