@@ -1,0 +1,11 @@
+pub mod ReplayLemmas
+pub mod FollowLemmas
+pub mod EndingLemmas
+pub mod EntryLemmas
+pub mod CommitLemmas
+pub mod SearchLemmas
+pub mod FormatLemmas
+pub mod HeadLemmas
+pub mod OpeningLemmas
+pub mod LiveLemmas
+pub mod TestLemmas

@@ -1,0 +1,11 @@
+pub mod Contents
+pub mod Live
+pub mod Journal
+pub mod Views
+pub mod Replays
+pub mod Places
+pub mod Batches
+pub mod Refusals
+pub mod Formats
+pub mod Answers
+pub mod Catalogues
