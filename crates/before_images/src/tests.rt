@@ -1,4 +1,4 @@
-ghost use Rattle.std.specs.Prelude.{◌<◌, ◌^◌};
+ghost use Rattle.std.specs.Prelude.{◌<◌, ◌^◌, IfOk};
 ghost use Rattle.site_disk.specs.Ledger.{MayUse};
 ghost use Rattle.site_disk.specs.MemDisk.{disk_ledger};
 
@@ -34,23 +34,31 @@ fn last_byte(disk: &MemDisk, page: usize) -> u8
         .unwrap_or(&255)
 }
 
+// A disk of 17 pages, page 3 filled with 13 and page 16 with 26.
+fn disk_of_pages(alloc: Global, era: &Era) -> Result<MemDisk, Fail>
+    ensures { IfOk result (λ disk. MayUse era.now (disk_ledger disk)) }
+{
+    let mut disk = MemDisk::new(alloc, era, Vec::new(alloc));
+    reach(&mut disk, era, PAGES_AT + 17 * 4096)?;
+    fill_page(&mut disk, era, 3, 13)?;
+    fill_page(&mut disk, era, 16, 26)?;
+    Ok(disk)
+}
+
+static SAVED: [u32; 16] = [16, 3, 0, 1, 2, 4, 5, 6, 7, 8, 9, 10, 11, 12, 13, 14];
+
 #[test]
 fn saved_pages_are_put_back(rt: HostRuntime) -> Result<(), Fail> {
     saved_pages_come_back();
-    let alloc = rt.alloc();
     let era = Era::first();
-    let mut disk = MemDisk::new(alloc, &era, Vec::new(alloc));
+    let mut disk = disk_of_pages(rt.alloc(), &era)?;
     let mut images = Images::new(BASE);
-    reach(&mut disk, &era, PAGES_AT + 17 * 4096)?;
-    fill_page(&mut disk, &era, 3, 13)?;
-    fill_page(&mut disk, &era, 16, 26)?;
     assert_eq!(rt;
         images.put_back(&mut disk, &era, PAGES_AT, 17, (7, 2)),
         Ok(false)
     );
-    let pages = [16, 3, 0, 1, 2, 4, 5, 6, 7, 8, 9, 10, 11, 12, 13, 14];
     assert_eq!(rt;
-        images.save(&mut disk, &era, PAGES_AT, (7, 2), &pages),
+        images.save(&mut disk, &era, PAGES_AT, (7, 2), &SAVED),
         Ok(())
     );
     fill_page(&mut disk, &era, 3, 99)?;
@@ -68,18 +76,35 @@ fn saved_pages_are_put_back(rt: HostRuntime) -> Result<(), Fail> {
         images.put_back(&mut disk, &era, PAGES_AT, 17, (7, 2)),
         Ok(true)
     );
-    assert_eq!(rt; (last_byte(&disk, 3), last_byte(&disk, 16)), (13, 26));
     assert_eq!(rt;
         images.put_back(&mut disk, &era, PAGES_AT, 17, (7, 2)),
         Ok(true)
     );
     assert_eq!(rt; (last_byte(&disk, 3), last_byte(&disk, 16)), (13, 26));
+    Ok(())
+}
+
+#[test]
+fn dropped_pages_are_not_put_back(rt: HostRuntime) -> Result<(), Fail> {
+    let era = Era::first();
+    let mut disk = disk_of_pages(rt.alloc(), &era)?;
+    let mut images = Images::new(BASE);
+    images.save(&mut disk, &era, PAGES_AT, (7, 2), &SAVED)?;
     assert_eq!(rt; images.drop_all(&mut disk, &era), Ok(()));
     assert_eq!(rt; images.drop_all(&mut disk, &era), Ok(()));
     assert_eq!(rt;
         images.put_back(&mut disk, &era, PAGES_AT, 17, (7, 2)),
         Ok(false)
     );
+    Ok(())
+}
+
+#[test]
+fn a_failing_disk_fails_each_call(rt: HostRuntime) -> Result<(), Fail> {
+    let alloc = rt.alloc();
+    let era = Era::first();
+    let mut disk = disk_of_pages(alloc, &era)?;
+    let mut images = Images::new(BASE);
     disk.fail_at(Vec::from_slice(alloc, &[1, 2, 3])?);
     assert_eq!(rt;
         images.save(&mut disk, &era, PAGES_AT, (7, 2), &[1]),

@@ -5,7 +5,3 @@ use Rattle.before_images.proofs.tests.saved_pages_are_put_back.Goals as goal
 pub save-requires-clause-distinct : goal.save-requires-clause-distinct
 unfolding are_distinct is_among
 save-requires-clause-distinct g c = refl
-
-pub save-requires-2-clause-distinct : goal.save-requires-2-clause-distinct
-unfolding are_distinct is_among
-save-requires-2-clause-distinct g c = refl
