@@ -2,7 +2,7 @@
 use Rattle.std.proofs.Common.{◌≡◌, ℕ, zero, suc, ◌+◌, ◌-◌, ◌*◌, ◌/◌, ◌%◌, ◌<◌, ◌≤◌, List, length, arith, ap, subst, sym, ◌∙◌}
 use Rattle.site_disk.specs.Bytes.{filled}
 use Rattle.site_disk.specs.BytesLaws.{filled_there, length-filled}
-use Rattle.site_disk.specs.Images.{Leaves, OnlyAfter}
+use Rattle.site_disk.specs.Images.{Seen, Leaves}
 use Rattle.site_disk.specs.ImagesLaws.{weaker}
 use Rattle.gated_slots.specs.Slots.{SlotsView, IsSlots, place_of, used, Gains, MayGain, Agrees, Reaches}
 use Rattle.gated_slots.specs.Writes.{with_batch, MayAdd}
@@ -53,17 +53,9 @@ module _ (view : SlotsView) (batch : List ℕ) (is : IsSlots view) (whole : leng
       let reaches : place ≤ length from = omega (arith, length-filled place old) in
       (gained from new same reaches (written ∙ ap (with_batch place batch gate) (sym (filled_there place from reaches)))).used ∙ ap (λ (k : ℕ). k + count) same
 
-  pub crash : (e before : ℕ) (bytes : List ℕ) (old new : ℕ → List ℕ → Type 0) → before ≤ e → Agrees view before bytes old
-      → Leaves e (MayAdd (place_of view.area view.used) batch gate) old new → Leaves e (MayGain view.area count batch) old new
-  crash e before bytes old new le agrees leaves =
-      weaker (MayGain view.area count batch) (MayAdd (place_of view.area view.used) batch gate) e old old new leaves
+  pub crash : (e : ℕ) (disk : Seen) (new : ℕ → List ℕ → Type 0) → disk.last ≤ e → Agrees view disk
+      → Leaves e (MayAdd (place_of view.area view.used) batch gate) disk.images new → Leaves e (MayGain view.area count batch) disk.images new
+  crash e disk new le agrees leaves =
+      weaker (MayGain view.area count batch) (MayAdd (place_of view.area view.used) batch gate) e disk.images disk.images new leaves
       (λ f d c lt image may. may_gain view.area view.used count batch fits d (agrees.later f d (omega arith) image) last last_is c
       (subst (λ (g : ℕ). MayAdd (place_of view.area view.used) batch g d c) gate_is may))
-
--- the count that stands in the bytes stands in each later image, where they are the bytes
-pub agrees_after : (view : SlotsView) (e now : ℕ) (bytes : List ℕ) (images : ℕ → List ℕ → Type 0)
-    → ((f : ℕ) (c : List ℕ) → now < f → images f c → images (e + 1) c) → OnlyAfter e bytes images → used view.area bytes ≡ view.used → Agrees view now bytes images
-agrees_after view e now bytes images pending only counts = record {
-  now = counts;
-  later = λ f c lt image. ap (used view.area) (only (e + 1) c (omega arith) (pending f c lt image)) ∙ counts;
-}

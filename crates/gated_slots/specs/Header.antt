@@ -1,25 +1,26 @@
 -- The first page of a disk: its header, whose first byte is its gate.
 use Rattle.std.specs.Prelude.{◌≡◌, ◌≢◌, ℕ, ◌<◌, ◌≤◌, List, length, drop, slice_index}
 use Rattle.site_disk.specs.Bytes.{extent, Torn}
+use Rattle.site_disk.specs.Images.{Seen}
 
 -- the page is there and its gate isn't closed
 pub record IsHeader (bytes : List ℕ) : Type 0 where
   pub long : 4096 ≤ length bytes
   pub gate : slice_index bytes 0 ≢ 0
 
--- the first byte is there and is 0
+-- the first byte is there and is 0: the gate at 0 is closed
 pub record IsClosed (bytes : List ℕ) : Type 0 where
   pub some : 1 ≤ length bytes
   pub gate : slice_index bytes 0 ≡ 0
 
 -- every image of later eras is closed
-abbrev pub ClosedAfter : ℕ → (ℕ → List ℕ → Type 0) → Type 0
-ClosedAfter last images = (f : ℕ) (c : List ℕ) → last < f → images f c → IsClosed c
+abbrev pub ClosedAfter : Seen → Type 0
+ClosedAfter disk = (f : ℕ) (c : List ℕ) → disk.last < f → disk.images f c → IsClosed c
 
 -- closed in what a read gives, and in every image of later eras
-pub record StandsClosed (last : ℕ) (bytes : List ℕ) (images : ℕ → List ℕ → Type 0) : Type 0 where
-  pub now : IsClosed bytes
-  pub later : ClosedAfter last images
+pub record StandsClosed (disk : Seen) : Type 0 where
+  pub now : IsClosed disk.bytes
+  pub later : ClosedAfter disk
 
 -- what a stop within the closing leaves: any gate, the same behind it, and no header where there was no whole page
 pub record MayClose (old new : List ℕ) : Type 0 where

@@ -1,20 +1,67 @@
 -- Laws of headers.
-use Rattle.std.specs.Prelude.{◌≡◌, ℕ, ◌+◌, ◌≤◌, List, [], ◌∷◌, ◌++◌, length, take, drop, slice_index}
+use Rattle.std.specs.Prelude.{◌≡◌, ◌⊎◌, ℕ, zero, suc, ◌+◌, ◌-◌, ◌≤◌, List, [], ◌∷◌, ◌++◌, length, take, drop, slice_index, refl}
 use mathlib.Core.Logic.{inl, inr}
-use Rattle.std.proofs.Common.{arith, ap, sym, ◌∙◌, ⊎_elim, get_or, length-drop}
-use Rattle.std.proofs.lemmas.List.{drop_all, drop_at, length-take-le, append_assoc}
-use Rattle.site_disk.specs.Bytes.{extent, written, filled, Torn}
+use Rattle.std.proofs.Common.{arith, ap, sym, subst, ◌∙◌, ⊎_elim, get_or, length-drop}
+use Rattle.std.proofs.lemmas.List.{drop_all, drop_at, length-take, length-take-le, append_assoc}
+use Rattle.site_disk.specs.Bytes.{extent, written, filled, Elsewhere, Torn}
 use Rattle.site_disk.specs.BytesLaws.{extent-written, extent-one, filled_there, length-written, torn_whole}
-use Rattle.gated_slots.specs.Header.{IsHeader, IsClosed, MayOpen}
+use Rattle.site_disk.specs.Gates.{IsShut}
+use Rattle.site_disk.specs.Images.{Seen, IsSynced}
+use Rattle.site_disk.specs.SeenLaws.{in_each_image}
+use Rattle.gated_slots.specs.Header.{IsHeader, IsClosed, StandsClosed, MayClose, MayOpen}
+use Rattle.gated_slots.specs.Slots.{Zeroes}
 use Rattle.gated_slots.specs.Writes.{with_batch, MayAdd}
 
 -- a disk whose first byte is 0 has no header
 pub closed_no_header : (bytes : List ℕ) → IsClosed bytes → IsHeader bytes → ⊥
 closed_no_header bytes closed header = header.gate closed.gate
 
+-- its gate is that at place 0
+pub closed_shut : (bytes : List ℕ) → IsClosed bytes → IsShut 0 bytes
+closed_shut bytes closed = extent-one 0 bytes (omega (arith, closed.some)) ∙ ap (λ (b : ℕ). b ∷ []) closed.gate
+
+pub shut_closed : (bytes : List ℕ) → IsShut 0 bytes → IsClosed bytes
+shut_closed bytes shut =
+    let some : 1 ≤ length bytes = omega (arith, ap (λ (l : List ℕ). length l) shut, length-take 1 (drop 0 bytes), length-drop 0 bytes) in record {
+      some = some;
+      gate = ap (λ (l : List ℕ). get_or l 0 0) (sym (extent-one 0 bytes (omega (arith, some))) ∙ shut);
+    }
+
+pub closed_or_not : (bytes : List ℕ) → IsClosed bytes ⊎ (IsClosed bytes → ⊥)
+closed_or_not [] = inr (λ closed. absurd (omega (arith, closed.some)))
+closed_or_not (zero ∷ bytes) = inl (record { some = omega arith; gate = refl })
+closed_or_not (suc gate ∷ bytes) = inr (λ closed. absurd (omega (arith, closed.gate)))
+
 -- the first byte is decided by its extent
 pub first_by_extent : (old new : List ℕ) → 1 ≤ length old → length old ≤ length new → extent 0 1 new ≡ extent 0 1 old → slice_index new 0 ≡ slice_index old 0
 first_by_extent old new some le same = ap (λ (l : List ℕ). get_or l 0 0) (sym (extent-one 0 new (omega arith)) ∙ same ∙ extent-one 0 old some)
+
+-- what is closed stays so where the first byte stays
+pub closed_still : (old new : List ℕ) → IsClosed old → length old ≤ length new → extent 0 1 new ≡ extent 0 1 old → IsClosed new
+closed_still old new closed le same = record {
+  some = omega (arith, closed.some, le);
+  gate = first_by_extent old new closed.some le same ∙ closed.gate;
+}
+
+-- as after a change of another range, a torn write among them
+pub closed_elsewhere : (at n : ℕ) (old new : List ℕ) → 1 ≤ at → IsClosed old → length old ≤ length new → Elsewhere at n old new → IsClosed new
+closed_elsewhere at n old new behind closed le same = closed_still old new closed le (same 0 1 (inl (omega (arith, behind))))
+
+-- and after zero bytes behind it
+pub closed_zeroes : (from to : ℕ) (old new : List ℕ) → 1 ≤ from → IsClosed old → Zeroes from to old new → IsClosed new
+closed_zeroes from to old new behind closed zeroes = closed_elsewhere from (to - from) old new behind closed (omega (arith, zeroes.long)) zeroes.elsewhere
+
+-- written as 0, it is closed
+pub closed_written : (old new : List ℕ) → new ≡ written 0 (0 ∷ []) old → IsClosed new
+closed_written old new is = subst IsClosed (sym is) (record { some = omega (arith, length-written 0 (0 ∷ []) old (omega arith)); gate = refl })
+
+-- closed in what a read gives, after a sync
+pub stands_closed : (disk : Seen) → IsSynced disk → IsClosed disk.bytes → StandsClosed disk
+stands_closed disk synced closed = record { now = closed; later = in_each_image IsClosed disk synced closed }
+
+-- what the closing leaves is no header where there was no whole page
+pub may_close : (old new : List ℕ) → Torn 0 1 old new → MayClose old new
+may_close old new torn = record { torn = torn; none = λ short header. absurd (omega (arith, short, torn.no_longer, header.long)) }
 
 -- a first byte written as 0 where it is 0 already
 pub written_closed : (old : List ℕ) → IsClosed old → written 0 (0 ∷ []) old ≡ old

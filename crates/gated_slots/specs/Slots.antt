@@ -1,6 +1,7 @@
 -- An area of slots on a disk: what its gates say, and what calls do to it.
 use Rattle.std.specs.Prelude.{◌≡◌, ◌⊎◌, ℕ, zero, suc, ◌+◌, ◌-◌, ◌*◌, ◌/◌, ◌^◌, ◌<◌, ◌≤◌, min, max, List, [], ◌∷◌, ◌++◌, length, replicate}
-use Rattle.site_disk.specs.Bytes.{extent, Apart}
+use Rattle.site_disk.specs.Images.{Seen}
+use Rattle.site_disk.specs.Bytes.{extent, Apart, Elsewhere}
 
 -- where the gates and the slots begin, the bytes of a slot, the number of slots; a gate is one byte
 pub record Area : Type 0 where
@@ -50,28 +51,28 @@ abbrev pub held : Area → List ℕ → List ℕ
 held area bytes = extent area.slots (area.size * used area bytes) bytes
 
 -- all ranges apart from the area's gates and slots are as before
-abbrev pub Elsewhere : Area → List ℕ → List ℕ → Type 0
-Elsewhere area old new = (from len : ℕ) → Apart area.gates area.capacity from len
+abbrev pub OutsideArea : Area → List ℕ → List ℕ → Type 0
+OutsideArea area old new = (from len : ℕ) → Apart area.gates area.capacity from len
     → Apart area.slots (area.size * area.capacity) from len → extent from len new ≡ extent from len old
 
 -- the same slots used
 pub record Keeps (area : Area) (old new : List ℕ) : Type 0 where
   pub used : used area new ≡ used area old
   pub held : held area new ≡ held area old
-  pub elsewhere : Elsewhere area old new
+  pub elsewhere : OutsideArea area old new
   pub no_shorter : length old ≤ length new
 
 -- a batch of n slots more, behind those used before
 pub record Gains (area : Area) (n : ℕ) (batch old new : List ℕ) : Type 0 where
   pub used : used area new ≡ used area old + n
   pub held : held area new ≡ held area old ++ batch
-  pub elsewhere : Elsewhere area old new
+  pub elsewhere : OutsideArea area old new
   pub no_shorter : length old ≤ length new
 
 -- the whole batch or nothing of it
 pub record MayGain (area : Area) (n : ℕ) (batch old new : List ℕ) : Type 0 where
   pub slots : Keeps area old new ⊎ Gains area n batch old new
-  pub elsewhere : Elsewhere area old new
+  pub elsewhere : OutsideArea area old new
   pub no_shorter : length old ≤ length new
 
 -- where the gates end
@@ -85,13 +86,13 @@ first_zero area bytes = min area.gates (length bytes)
 -- zero bytes stand from one place up to another, the bytes go on at least to there, and elsewhere nothing has changed
 pub record Zeroes (from to : ℕ) (old new : List ℕ) : Type 0 where
   pub zeros : extent from (to - from) new ≡ replicate (to - from) 0
-  pub elsewhere : (place len : ℕ) → Apart from (to - from) place len → extent place len new ≡ extent place len old
+  pub elsewhere : Elsewhere from (to - from) old new
   pub long : length new ≡ max (length old) to
 
 -- the value's count is what the gates say, in what a read gives and in every image of later eras
-pub record Agrees (view : SlotsView) (last : ℕ) (bytes : List ℕ) (images : ℕ → List ℕ → Type 0) : Type 0 where
-  pub now : used view.area bytes ≡ view.used
-  pub later : (f : ℕ) (c : List ℕ) → last < f → images f c → used view.area c ≡ view.used
+pub record Agrees (view : SlotsView) (disk : Seen) : Type 0 where
+  pub now : used view.area disk.bytes ≡ view.used
+  pub later : (f : ℕ) (c : List ℕ) → disk.last < f → disk.images f c → used view.area c ≡ view.used
 
 -- the bytes go on at least to the place of the next slot
 abbrev pub Reaches : SlotsView → List ℕ → Type 0

@@ -1,14 +1,16 @@
 -- Laws of gates and slots.
-use Rattle.std.specs.Prelude.{◌≡◌, ℕ, zero, suc, ◌+◌, ◌-◌, ◌*◌, ◌<◌, ◌≤◌, max, List, [], ◌∷◌, ◌++◌, length, take, drop, replicate, refl}
+use Rattle.std.specs.Prelude.{◌≡◌, ℕ, zero, suc, ◌+◌, ◌-◌, ◌*◌, ◌<◌, ◌≤◌, List, [], ◌∷◌, ◌++◌, length, take, drop, replicate, refl}
 use mathlib.Core.Logic.{inl, inr}
-use Rattle.std.proofs.Common.{arith, ap, sym, ◌∙◌, ⊎_elim, subst, get_or, length-append}
-use Rattle.std.proofs.lemmas.List.{append-nil, drop_at, drop-drop, drop-take, take-take, length-take, take-append-drop, drop_more, length-replicate, take-replicate, drop-replicate}
+use Rattle.std.proofs.Common.{arith, ap, sym, ◌∙◌, ⊎_elim, subst, get_or}
+use Rattle.std.proofs.lemmas.List.{drop_at, length-take, length-replicate, take-replicate, drop-replicate}
 use Rattle.std.proofs.lemmas.Bool.{cases_eq}
 use Rattle.std.proofs.Math.Nat.{mul-le-mul_left}
 use Rattle.site_disk.specs.Bytes.{extent, written, filled, Torn, Apart}
-use Rattle.site_disk.specs.BytesLaws.{extent-written, length-written, torn_whole, length-extent, extent-extent, extent-add, extent-one, extent-fewer, extent-about, filled_there}
+use Rattle.site_disk.specs.BytesLaws.{extent-written, length-written, torn_whole, length-extent, extent-extent, extent-add, extent-one, extent-fewer, extent-about}
 use Rattle.gated_slots.specs.Writes.{with_batch, MayAdd}
-use Rattle.gated_slots.specs.Slots.{Area, with_gate, used_of, used, held, place_of, Elsewhere, Keeps, Gains, MayGain, Zeroes}
+use Rattle.site_disk.specs.Images.{Seen, IsSynced}
+use Rattle.site_disk.specs.SeenLaws.{in_each_image}
+use Rattle.gated_slots.specs.Slots.{Area, SlotsView, with_gate, used_of, used, held, place_of, OutsideArea, Keeps, Gains, MayGain, Agrees, Zeroes}
 
 -- gates
 
@@ -273,7 +275,7 @@ held_by_slots area old new gates slots =
 -- so a change apart from both keeps them
 pub keeps_by : (area : Area) (old new : List ℕ) → extent area.gates area.capacity new ≡ extent area.gates area.capacity old
     → extent area.slots (area.size * area.capacity) new ≡ extent area.slots (area.size * area.capacity) old
-    → Elsewhere area old new → length old ≤ length new → Keeps area old new
+    → OutsideArea area old new → length old ≤ length new → Keeps area old new
 keeps_by area old new gates slots apart le = record { used = used_by_gates area old new gates; held = held_by_slots area old new gates slots; elsewhere = apart; no_shorter = le }
 
 -- zero bytes written as a whole
@@ -311,3 +313,7 @@ extent-held area slot n bytes within =
 -- where the bytes go on to the next slot's place, those used are there whole
 pub length-held : (area : Area) (bytes : List ℕ) → place_of area (used area bytes) ≤ length bytes → length (held area bytes) ≡ area.size * used area bytes
 length-held area bytes reaches = length-extent area.slots (area.size * used area bytes) bytes reaches
+
+-- the count that stands in the bytes stands in each later image, after a sync
+pub agrees_synced : (view : SlotsView) (disk : Seen) → IsSynced disk → used view.area disk.bytes ≡ view.used → Agrees view disk
+agrees_synced view disk synced counts = record { now = counts; later = in_each_image (λ (c : List ℕ). used view.area c ≡ view.used) disk synced counts }

@@ -25,7 +25,7 @@ fn last_open(gates: &[u8]) -> usize
 fn read_gates<D: Disk>(disk: &mut D, era: &Era, at: u64, piece: &mut [u8]) -> Result<usize, Failed>
     requires { MayUse era.now (D.ledger disk.old) }
     ensures within { IfOk result (λ used. used ≤ length piece.old) }
-    ensures used { IsTrue D.tells
+    ensures used { IsTrue D.is_modelled
         → IfOk result (λ used. used ≡ used_of (extent at (length piece.old) (D.bytes disk.old))) }
     ensures bytes { OnOk result (D.bytes disk.new ≡ D.bytes disk.old) }
     ensures images { OnOk result (Unchanged (D.image disk.old) (D.image disk.new)) }
@@ -49,7 +49,7 @@ pub(crate) fn count_used<D: Disk>(
     requires fits { gates + capacity < 2 ^ 64 }
     requires some { 0 < length buffer.old }
     ensures within { IfOk result (λ used. used ≤ capacity) }
-    ensures used { IsTrue D.tells
+    ensures used { IsTrue D.is_modelled
         → IfOk result (λ used. used ≡ used_of (extent gates capacity (D.bytes disk.old))) }
     ensures bytes { OnOk result (D.bytes disk.new ≡ D.bytes disk.old) }
     ensures images { OnOk result (Unchanged (D.image disk.old) (D.image disk.new)) }

@@ -4,6 +4,7 @@ ghost use Rattle.site_disk.specs.Bytes.{extent, Same, Torn};
 ghost use Rattle.site_disk.specs.Causes.{Rose, HasCause};
 ghost use Rattle.site_disk.specs.Images.{Leaves, OnlyAfter, Unchanged};
 ghost use Rattle.site_disk.specs.Ledger.{MayUse, Uses};
+ghost use Rattle.site_disk.specs.Seen.{seen};
 
 use crate::reading::count_used;
 use crate::writing::{add_batch, zero_up_to};
@@ -110,24 +111,24 @@ impl Slots {
         ensures used { OnOk result (self.new ≡ record self.old { used = self.old.used + slots_in self.old.area batch.now }) }
         ensures value { OnErr result (self.new ≡ self.old) }
 
-        ensures gained { IsTrue D.tells → Reaches self.old (D.bytes disk.old)
-            → Agrees self.old (D.ledger disk.old).last (D.bytes disk.old) (D.image disk.old)
+        ensures gained { IsTrue D.is_modelled → Reaches self.old (D.bytes disk.old)
+            → Agrees self.old (seen D.Disk disk.old)
             → OnOk result (Gains self.old.area (slots_in self.old.area batch.now) batch.now
             (D.bytes disk.old) (D.bytes disk.new)) }
-        ensures reaches { IsTrue D.tells → OnOk result (Reaches self.new (D.bytes disk.new)) }
-        ensures agrees { IsTrue D.tells
-            → Agrees self.old (D.ledger disk.old).last (D.bytes disk.old) (D.image disk.old)
-            → OnOk result (Agrees self.new (D.ledger disk.new).last (D.bytes disk.new) (D.image disk.new)) }
-        ensures durable { IsTrue D.tells
+        ensures reaches { IsTrue D.is_modelled → OnOk result (Reaches self.new (D.bytes disk.new)) }
+        ensures agrees { IsTrue D.is_modelled
+            → Agrees self.old (seen D.Disk disk.old)
+            → OnOk result (Agrees self.new (seen D.Disk disk.new)) }
+        ensures durable { IsTrue D.is_modelled
             → OnOk result (OnlyAfter era.now.number (D.bytes disk.new) (D.image disk.new)) }
-        ensures crash { IsTrue D.tells → Reaches self.old (D.bytes disk.old)
-            → Agrees self.old (D.ledger disk.old).last (D.bytes disk.old) (D.image disk.old)
+        ensures crash { IsTrue D.is_modelled → Reaches self.old (D.bytes disk.old)
+            → Agrees self.old (seen D.Disk disk.old)
             → Leaves era.now.number (MayGain self.old.area (slots_in self.old.area batch.now) batch.now)
             (D.image disk.old) (D.image disk.new) }
 
         ensures ledger { Uses era.now 0 (place_of self.old.area self.old.used + length batch.now + 1)
             (D.ledger disk.old) (D.ledger disk.new) }
-        ensures bound { IsTrue D.tells → Reaches self.old (D.bytes disk.old)
+        ensures bound { IsTrue D.is_modelled → Reaches self.old (D.bytes disk.old)
             → (D.ledger disk.new).written ≤ (D.ledger disk.old).written + length batch.now + 1 }
 
         ensures full { self.old.area.capacity < self.old.used + slots_in self.old.area batch.now
@@ -160,13 +161,13 @@ impl Slots {
         requires { MayUse era.now (D.ledger disk.old) }
 
         ensures area { self.new.area ≡ self.old.area }
-        ensures used { IsTrue D.tells → OnOk result (self.new.used ≡ used self.old.area (D.bytes disk.old)) }
+        ensures used { IsTrue D.is_modelled → OnOk result (self.new.used ≡ used self.old.area (D.bytes disk.old)) }
         ensures value { OnErr result (self.new ≡ self.old) }
 
         ensures bytes { OnOk result (D.bytes disk.new ≡ D.bytes disk.old) }
-        ensures agrees { IsTrue D.tells
-            → OnOk result (Agrees self.new (D.ledger disk.new).last (D.bytes disk.new) (D.image disk.new)) }
-        ensures durable { IsTrue D.tells
+        ensures agrees { IsTrue D.is_modelled
+            → OnOk result (Agrees self.new (seen D.Disk disk.new)) }
+        ensures durable { IsTrue D.is_modelled
             → OnOk result (OnlyAfter era.now.number (D.bytes disk.new) (D.image disk.new)) }
         ensures crash { Leaves era.now.number Same (D.image disk.old) (D.image disk.new) }
 
@@ -191,9 +192,9 @@ impl Slots {
         requires slot { slot < self.now.used }
         requires one { length into.old ≡ self.now.area.size }
 
-        ensures whole { IsTrue D.tells → IfOk result (λ whole.
+        ensures whole { IsTrue D.is_modelled → IfOk result (λ whole.
             IsTrue whole ↔ (place_of self.now.area slot + self.now.area.size ≤ length (D.bytes disk.old))) }
-        ensures found { IsTrue D.tells → IfOk result (λ whole.
+        ensures found { IsTrue D.is_modelled → IfOk result (λ whole.
             IsTrue whole → into.new ≡ extent (place_of self.now.area slot) self.now.area.size (D.bytes disk.old)) }
 
         ensures bytes { OnOk result (D.bytes disk.new ≡ D.bytes disk.old) }
@@ -221,9 +222,9 @@ impl Slots {
         requires some { 0 < length into.old }
         requires slots { slot + slots_in self.now.area into.old ≤ self.now.used }
 
-        ensures whole { IsTrue D.tells → IfOk result (λ whole.
+        ensures whole { IsTrue D.is_modelled → IfOk result (λ whole.
             IsTrue whole ↔ (place_of self.now.area slot + length into.old ≤ length (D.bytes disk.old))) }
-        ensures found { IsTrue D.tells → IfOk result (λ whole.
+        ensures found { IsTrue D.is_modelled → IfOk result (λ whole.
             IsTrue whole → into.new ≡ extent (place_of self.now.area slot) (length into.old) (D.bytes disk.old)) }
 
         ensures bytes { OnOk result (D.bytes disk.new ≡ D.bytes disk.old) }
@@ -248,19 +249,19 @@ impl Slots {
         ensures none { OnOk result (self.new ≡ record self.old { used = 0 }) }
         ensures value { OnErr result (self.new ≡ self.old) }
 
-        ensures zeros { IsTrue D.tells
+        ensures zeros { IsTrue D.is_modelled
             → OnOk result (Zeroes (first_zero self.old.area (D.bytes disk.old)) self.old.area.slots
             (D.bytes disk.old) (D.bytes disk.new)) }
-        ensures agrees { IsTrue D.tells
-            → OnOk result (Agrees self.new (D.ledger disk.new).last (D.bytes disk.new) (D.image disk.new)) }
-        ensures durable { IsTrue D.tells
+        ensures agrees { IsTrue D.is_modelled
+            → OnOk result (Agrees self.new (seen D.Disk disk.new)) }
+        ensures durable { IsTrue D.is_modelled
             → OnOk result (OnlyAfter era.now.number (D.bytes disk.new) (D.image disk.new)) }
-        ensures crash { IsTrue D.tells → let first = first_zero self.old.area (D.bytes disk.old) in
+        ensures crash { IsTrue D.is_modelled → let first = first_zero self.old.area (D.bytes disk.old) in
             Leaves era.now.number (Torn first (self.old.area.slots - first))
             (D.image disk.old) (D.image disk.new) }
 
         ensures ledger { Uses era.now 0 self.old.area.slots (D.ledger disk.old) (D.ledger disk.new) }
-        ensures bound { IsTrue D.tells → self.old.area.gates ≤ length (D.bytes disk.old)
+        ensures bound { IsTrue D.is_modelled → self.old.area.gates ≤ length (D.bytes disk.old)
             → (D.ledger disk.new).written ≤ (D.ledger disk.old).written + (self.old.area.slots - self.old.area.gates) }
         ensures cause { HasCause (D.ledger disk.old).faults (D.ledger disk.new).faults result }
     {
@@ -278,19 +279,19 @@ impl Slots {
         ensures none { OnOk result (self.new ≡ record self.old { used = 0 }) }
         ensures value { OnErr result (self.new ≡ self.old) }
 
-        ensures zeros { IsTrue D.tells
+        ensures zeros { IsTrue D.is_modelled
             → OnOk result (Zeroes (first_zero self.old.area (D.bytes disk.old)) (end_of_gates self.old.area)
             (D.bytes disk.old) (D.bytes disk.new)) }
-        ensures agrees { IsTrue D.tells
-            → OnOk result (Agrees self.new (D.ledger disk.new).last (D.bytes disk.new) (D.image disk.new)) }
-        ensures durable { IsTrue D.tells
+        ensures agrees { IsTrue D.is_modelled
+            → OnOk result (Agrees self.new (seen D.Disk disk.new)) }
+        ensures durable { IsTrue D.is_modelled
             → OnOk result (OnlyAfter era.now.number (D.bytes disk.new) (D.image disk.new)) }
-        ensures crash { IsTrue D.tells → let first = first_zero self.old.area (D.bytes disk.old) in
+        ensures crash { IsTrue D.is_modelled → let first = first_zero self.old.area (D.bytes disk.old) in
             Leaves era.now.number (Torn first (end_of_gates self.old.area - first))
             (D.image disk.old) (D.image disk.new) }
 
         ensures ledger { Uses era.now 0 (end_of_gates self.old.area) (D.ledger disk.old) (D.ledger disk.new) }
-        ensures bound { IsTrue D.tells → self.old.area.gates ≤ length (D.bytes disk.old)
+        ensures bound { IsTrue D.is_modelled → self.old.area.gates ≤ length (D.bytes disk.old)
             → (D.ledger disk.new).written ≤ (D.ledger disk.old).written + self.old.area.capacity }
         ensures cause { HasCause (D.ledger disk.old).faults (D.ledger disk.new).faults result }
     {

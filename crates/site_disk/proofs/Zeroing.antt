@@ -8,10 +8,10 @@ use Rattle.site_disk.specs.Images.{Leaves}
 use Rattle.site_disk.specs.Ledger.{Ledger, EraView, Uses}
 
 -- zero bytes stand from one place up to another
-pub record Zeroed {D : Type 0} (tells : Bool) (bytes : D → List ℕ) (image : D → ℕ → List ℕ → Type 0) (ledger : D → Ledger) (era : EraView) (from to at : ℕ) (old new : D) : Type 0 where
+pub record Zeroed {D : Type 0} (is_modelled : Bool) (bytes : D → List ℕ) (image : D → ℕ → List ℕ → Type 0) (ledger : D → Ledger) (era : EraView) (from to at : ℕ) (old new : D) : Type 0 where
   pub begun : from ≤ at
   pub within : at ≤ to
-  pub content : IsTrue tells → bytes new ≡ written from (replicate (at - from) 0) (bytes old)
+  pub content : IsTrue is_modelled → bytes new ≡ written from (replicate (at - from) 0) (bytes old)
   pub crash : Leaves era.number (Torn from (to - from)) (image old) (image new)
   pub uses : Uses era 0 (at - from) (ledger old) (ledger new)
 

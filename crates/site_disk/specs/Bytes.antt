@@ -21,9 +21,13 @@ MayWrite at front old new = (new ≡ old) ⊎ (new ≡ written at front old)
 abbrev pub Apart : ℕ → ℕ → ℕ → ℕ → Type 0
 Apart at n from len = (from + len ≤ at) ⊎ (at + n ≤ from)
 
+-- all ranges apart from one are as before
+abbrev pub Elsewhere : ℕ → ℕ → List ℕ → List ℕ → Type 0
+Elsewhere at n old new = (from len : ℕ) → Apart at n from len → extent from len new ≡ extent from len old
+
 -- what a write of n bytes may leave that a crash cuts short: any bytes in its range, any length up to its end, the same elsewhere
 pub record Torn (at n : ℕ) (old new : List ℕ) : Type 0 where
-  pub elsewhere : (from len : ℕ) → Apart at n from len → extent from len new ≡ extent from len old
+  pub elsewhere : Elsewhere at n old new
   pub no_shorter : length old ≤ length new
   pub no_longer : length new ≤ max (length old) (at + n)
 

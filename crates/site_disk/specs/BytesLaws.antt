@@ -2,9 +2,9 @@
 use Rattle.std.specs.Prelude.{◌≡◌, ℕ, zero, suc, ◌+◌, ◌-◌, ◌<◌, ◌≤◌, max, List, [], ◌∷◌, ◌++◌, length, take, drop, replicate, refl}
 use mathlib.Core.Logic.{inl, inr}
 use Rattle.std.proofs.Common.{arith, ap, sym, ◌∙◌, ⊎_elim, get_or, append_assoc, length-append, length-drop, add-zero}
-use Rattle.std.proofs.lemmas.List.{append-nil, take-append-drop, drop-take, take-take, drop_at, drop-drop, take_at, length-take-le, drop_more, length-replicate}
+use Rattle.std.proofs.lemmas.List.{append-nil, take-append-drop, drop-take, take-take, drop_at, drop-drop, take_at, length-take-le, drop_more, length-replicate, get_or_append_left, get_or-append_right, get_or-take, get_or-drop}
 use Rattle.std.proofs.Math.Seq.{take-add}
-use Rattle.site_disk.specs.Bytes.{extent, written, filled, Torn}
+use Rattle.site_disk.specs.Bytes.{extent, written, filled, Elsewhere, Torn}
 
 -- a range is decided by the bytes up to its end
 pub extent-front : (from len : ℕ) (xs : List ℕ) → extent from len xs ≡ drop from (take (from + len) xs)
@@ -62,6 +62,25 @@ module _ (at : ℕ) (piece old : List ℕ) (within : at ≤ length old) where
           let e : from ≡ at + length piece + k = omega arith in
           ap (λ (n : ℕ). drop n (written at piece old)) e ∙ drop-written k ∙ ap (λ (n : ℕ). drop n old) (sym e)
 
+  -- a byte after it
+  module _ (x : ℕ) where
+    pub get_or-written_before : x < at → get_or (written at piece old) x 0 ≡ get_or old x 0
+    get_or-written_before lt =
+        get_or_append_left (take at old ++ piece) (drop (at + length piece) old) 0 x (omega (arith, length-front, lt))
+        ∙ get_or_append_left (take at old) piece 0 x (omega (arith, length-take-le at old within, lt))
+        ∙ get_or-take at old x 0 lt
+
+    pub get_or-written_within : at ≤ x → x < at + length piece → get_or (written at piece old) x 0 ≡ get_or piece (x - at) 0
+    get_or-written_within le lt =
+        get_or_append_left (take at old ++ piece) (drop (at + length piece) old) 0 x (omega (arith, length-front, lt))
+        ∙ get_or-append_right (take at old) piece at x 0 (length-take-le at old within) le
+
+    pub get_or-written_behind : at + length piece ≤ x → get_or (written at piece old) x 0 ≡ get_or old x 0
+    get_or-written_behind le =
+        get_or-append_right (take at old ++ piece) (drop (at + length piece) old) (at + length piece) x 0 length-front le
+        ∙ get_or-drop (at + length piece) old (x - (at + length piece)) 0
+        ∙ ap (λ (k : ℕ). get_or old k 0) (omega (arith, le))
+
 -- a write that leaves all as it was
 pub torn_none : (at n : ℕ) (bytes : List ℕ) → Torn at n bytes bytes
 torn_none at n bytes = record { elsewhere = λ from len apart. refl; no_shorter = omega arith; no_longer = omega arith }
@@ -81,6 +100,26 @@ torn_again at n old mid new first second = record {
   no_shorter = omega (arith, first.no_shorter, second.no_shorter);
   no_longer = omega (arith, first.no_longer, second.no_longer);
 }
+
+-- all but a range as before
+
+pub elsewhere_same : (at n : ℕ) (bytes : List ℕ) → Elsewhere at n bytes bytes
+elsewhere_same at n bytes = λ from len apart. refl
+
+pub elsewhere_again : (at n : ℕ) (old mid new : List ℕ) → Elsewhere at n old mid → Elsewhere at n mid new → Elsewhere at n old new
+elsewhere_again at n old mid new first second = λ from len apart. second from len apart ∙ first from len apart
+
+-- of any wider range
+pub elsewhere_wider : (at n from len : ℕ) (old new : List ℕ) → from ≤ at → at + n ≤ from + len → Elsewhere at n old new → Elsewhere from len old new
+elsewhere_wider at n from len old new le end same =
+    λ place size apart. same place size (⊎_elim (λ before. inl (omega (arith, le))) (λ behind. inr (omega (arith, end))) apart)
+
+-- after a write in the range, whole or torn
+pub elsewhere_torn : (at n from len : ℕ) (old new : List ℕ) → from ≤ at → at + n ≤ from + len → Torn at n old new → Elsewhere from len old new
+elsewhere_torn at n from len old new le end torn = elsewhere_wider at n from len old new le end torn.elsewhere
+
+pub elsewhere_written : (at : ℕ) (piece old : List ℕ) → at ≤ length old → Elsewhere at (length piece) old (written at piece old)
+elsewhere_written at piece old within = (torn_whole at piece old within).elsewhere
 
 -- a range within a range
 pub extent-extent : (at n from len : ℕ) (bytes : List ℕ) → at + n ≤ len → extent at n (extent from len bytes) ≡ extent (from + at) n bytes

@@ -1,10 +1,10 @@
 -- How a call of several steps comes out of its steps, for the layers above: its images, and what it uses of a disk.
-use Rattle.std.proofs.Common.{ℕ, ◌+◌, ◌<◌, ◌≤◌, List, inl, inr, arith, ⊎_elim, ◌∙◌, refl, subst, sym}
+use Rattle.std.proofs.Common.{◌≡◌, ℕ, ◌+◌, ◌<◌, ◌≤◌, List, inl, inr, arith, ⊎_elim, ◌∙◌, refl, subst, sym}
 use Rattle.std.specs.Prelude.{Result, Ok, Err, OnOk}
 use Rattle.site_disk.specs.Bytes.{Torn, Same}
 use Rattle.site_disk.specs.BytesLaws.{torn_wider, torn_again}
 use Rattle.site_disk.specs.Images.{Leaves, OnlyAfter, Unchanged}
-use Rattle.site_disk.specs.Ledger.{Ledger, EraView, MayUse, Uses, CountsWrite}
+use Rattle.site_disk.specs.Ledger.{Ledger, EraView, MayUse, Uses, Spends, CountsWrite}
 use Rattle.site_disk.specs.ImagesLaws.{goes_on}
 
 module _ (R : List ℕ → List ℕ → Type 0) (e : ℕ) (old mid new : ℕ → List ℕ → Type 0) where
@@ -14,6 +14,14 @@ module _ (R : List ℕ → List ℕ → Type 0) (e : ℕ) (old mid new : ℕ →
     earlier = λ f c lt image. same.back f c (l.earlier f c lt image);
     during = λ c image. ⊎_elim (λ was. inl (same.back e c was)) (λ step. inr (step.0, same.back (e + 1) step.0 step.1, step.2)) (l.during c image);
     later = λ f c lt image. let from = l.later f c lt image in (from.0, same.back f from.0 from.1, from.2);
+  }
+
+  -- a call that changed none leaves what any step may
+  pub leaves_nothing : ((c : List ℕ) → R c c) → Unchanged old new → Leaves e R old new
+  leaves_nothing reflexive same = record {
+    earlier = λ f c lt image. same.back f c image;
+    during = λ c image. inl (same.back e c image);
+    later = λ f c lt image. (c, same.back f c image, reflexive c);
   }
 
 -- a write within the range that was written before
@@ -34,6 +42,7 @@ uses_write {era = era} {all = all} {old = old} {mid = mid} {new = new} so_far wr
   read = omega (arith, so_far.read, write.read);
   written = omega (arith, so_far.written, write.written, le);
   synced = omega (arith, so_far.synced, so_far.no_later, write.synced, write.last);
+  later = omega (arith, so_far.later, write.synced);
 }
 
 -- a sync or a read after it
@@ -41,6 +50,10 @@ pub then_same : (R : List ℕ → List ℕ → Type 0) (e : ℕ) (old mid new : 
 then_same R e old mid new first second =
     goes_on R Same e old mid new first second
     (λ f d c lt image same. let was = first.later f d lt image in (was.0, was.1, subst (λ (l : List ℕ). R was.0 l) (sym same) was.2))
+
+-- calls that change no image
+pub unchanged_same : {images : ℕ → List ℕ → Type 0} → Unchanged images images
+unchanged_same = record { forth = λ f c image. image; back = λ f c image. image }
 
 pub unchanged_again : {old mid new : ℕ → List ℕ → Type 0} → Unchanged old mid → Unchanged mid new → Unchanged old new
 unchanged_again first second = record { forth = λ f c image. second.forth f c (first.forth f c image); back = λ f c image. first.back f c (second.back f c image) }
@@ -55,6 +68,7 @@ uses_nothing may = record {
   read = omega arith;
   written = omega arith;
   synced = may.synced;
+  later = omega arith;
 }
 
 -- one call after another
@@ -67,6 +81,7 @@ uses_again first second le = record {
   read = omega (arith, first.read, second.read, le);
   written = omega (arith, first.written, second.written);
   synced = second.synced;
+  later = omega (arith, first.later, second.later);
 }
 
 -- one call after another, of reads and writes
@@ -80,12 +95,87 @@ uses_both first second reads writes = record {
   read = omega (arith, first.read, second.read, reads);
   written = omega (arith, first.written, second.written, writes);
   synced = second.synced;
+  later = omega (arith, first.later, second.later);
 }
+
+-- at most so many bytes are at most more
+pub uses_more : {era : EraView} {reads writes more_reads more_writes : ℕ} {old new : Ledger} → Uses era reads writes old new → reads ≤ more_reads → writes ≤ more_writes
+    → Uses era more_reads more_writes old new
+uses_more uses reads writes = record {
+  key = uses.key;
+  no_earlier = uses.no_earlier;
+  no_later = uses.no_later;
+  faults = uses.faults;
+  read = omega (arith, uses.read, reads);
+  written = omega (arith, uses.written, writes);
+  synced = uses.synced;
+  later = uses.later;
+}
+
+-- what was used in an era may be used in it again
+pub may_use_again : {era : EraView} {reads writes : ℕ} {old new : Ledger} → MayUse era old → Uses era reads writes old new → MayUse era new
+may_use_again may uses = record { key = uses.key ∙ may.key; not_past = uses.no_later; synced = uses.synced }
+
+-- and in each later era
+pub may_use_later : {from to : EraView} {ledger : Ledger} → from.number ≤ to.number → to.key ≡ from.key → MayUse from ledger → MayUse to ledger
+may_use_later eras key may = record { key = may.key ∙ sym key; not_past = omega (arith, eras, may.not_past); synced = may.synced }
+
+-- calls of several eras
+
+-- a disk that isn't used
+pub spends_nothing : {from to : EraView} {ledger : Ledger} → from.number ≤ to.number → to.key ≡ from.key → MayUse from ledger → Spends from to 0 0 ledger ledger
+spends_nothing eras key may = record {
+  eras = eras;
+  same_key = key;
+  may = may_use_later eras key may;
+  no_earlier = omega arith;
+  faults = omega arith;
+  read = omega arith;
+  written = omega arith;
+  later = omega arith;
+}
+
+-- a call of one era
+pub spends_in_one : {era : EraView} {reads writes : ℕ} {old new : Ledger} → MayUse era old → Uses era reads writes old new → Spends era era reads writes old new
+spends_in_one may uses = record {
+  eras = omega arith;
+  same_key = refl;
+  may = may_use_again may uses;
+  no_earlier = uses.no_earlier;
+  faults = uses.faults;
+  read = uses.read;
+  written = uses.written;
+  later = uses.later;
+}
+
+-- one call after another
+pub spends_again : {from mid to : EraView} {reads writes more_reads more_writes all_reads all_writes : ℕ} {old between new : Ledger} → Spends from mid reads writes old between
+    → Spends mid to more_reads more_writes between new → reads + more_reads ≤ all_reads → writes + more_writes ≤ all_writes → Spends from to all_reads all_writes old new
+spends_again first second reads writes = record {
+  eras = omega (arith, first.eras, second.eras);
+  same_key = second.same_key ∙ first.same_key;
+  may = second.may;
+  no_earlier = omega (arith, first.no_earlier, second.no_earlier);
+  faults = omega (arith, first.faults, second.faults);
+  read = omega (arith, first.read, second.read, reads);
+  written = omega (arith, first.written, second.written, writes);
+  later = omega (arith, first.later, second.later);
+}
+
+-- up to a later era, in which the disk isn't used
+pub spends_later : {from mid to : EraView} {reads writes : ℕ} {old new : Ledger} → Spends from mid reads writes old new → mid.number ≤ to.number → to.key ≡ mid.key
+    → Spends from to reads writes old new
+spends_later spends eras key = spends_again spends (spends_nothing eras key spends.may) (omega arith) (omega arith)
 
 -- what holds at the Ok of a last call
 pub on_ok : {T E P Q : Type 0} (result : Result T E) → (P → Q) → OnOk result P → OnOk result Q
 on_ok (Ok x) means is = means is
 on_ok (Err e) means is = is
+
+-- and of two facts
+pub both_on_ok : {T E P Q R : Type 0} (result : Result T E) → (P → Q → R) → OnOk result P → OnOk result Q → OnOk result R
+both_on_ok (Ok x) means p q = means p q
+both_on_ok (Err e) means p q = p
 
 -- a call after a sync, from bytes that are known by then
 pub from_known : (R T : List ℕ → List ℕ → Type 0) (e : ℕ) (first bytes : List ℕ) (old mid new : ℕ → List ℕ → Type 0) → Leaves e R old mid

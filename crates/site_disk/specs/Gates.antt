@@ -1,6 +1,7 @@
 -- A gate: a byte of a disk, 0 where it's closed, which says whether what stands behind it counts.
 use Rattle.std.specs.Prelude.{◌≡◌, ◌⊎◌, ℕ, zero, suc, ◌<◌, List, [], ◌∷◌, Option, None}
 use Rattle.site_disk.specs.Bytes.{extent, written, Torn}
+use Rattle.site_disk.specs.Images.{Seen}
 
 -- the gate's byte is there and is 0
 abbrev pub IsShut : ℕ → List ℕ → Type 0
@@ -19,6 +20,9 @@ shut gate bytes = written gate (0 ∷ []) bytes
 -- in every image of later eras the gate's byte is what a read gives
 abbrev pub GateStands : ℕ → ℕ → List ℕ → (ℕ → List ℕ → Type 0) → Type 0
 GateStands gate last bytes images = (f : ℕ) (c : List ℕ) → last < f → images f c → extent gate 1 c ≡ extent gate 1 bytes
+
+abbrev pub GateIsSynced : ℕ → Seen → Type 0
+GateIsSynced gate disk = GateStands gate disk.last disk.bytes disk.images
 
 -- what a stop in the closing leaves: any byte as the gate, and nothing new where it was closed
 pub record MayShut (gate : ℕ) (old new : List ℕ) : Type 0 where

@@ -1,11 +1,11 @@
 -- Laws of gates, for the layers above.
 use Rattle.std.specs.Prelude.{◌≡◌, ◌⊎◌, ℕ, zero, suc, ◌≤◌, List, [], ◌∷◌, length, Option, None, refl}
 use mathlib.Core.Logic.{inl, inr}
-use Rattle.std.proofs.Common.{arith, ap, sym, subst}
-use Rattle.site_disk.specs.Bytes.{Torn, Same}
+use Rattle.std.proofs.Common.{arith, ap, sym, subst, ◌∙◌}
+use Rattle.site_disk.specs.Bytes.{extent, Torn, Same}
 use Rattle.site_disk.specs.BytesLaws.{torn_none, extent-written, written-same}
-use Rattle.site_disk.specs.Gates.{IsShut, behind, shut, MayShut, ComeShut, MayFill}
-use Rattle.site_disk.specs.Images.{Leaves}
+use Rattle.site_disk.specs.Gates.{IsShut, behind, shut, GateIsSynced, MayShut, ComeShut, MayFill}
+use Rattle.site_disk.specs.Images.{Seen, IsSynced, Leaves, Unchanged}
 use Rattle.site_disk.specs.ImagesLaws.{weaker, goes_on}
 
 -- a closed gate that is closed
@@ -14,6 +14,15 @@ shut-closed gate bytes closed = written-same gate (0 ∷ []) bytes closed
 
 pub is_shut : (gate : ℕ) (bytes : List ℕ) → gate ≤ length bytes → IsShut gate (shut gate bytes)
 is_shut gate bytes within = extent-written gate (0 ∷ []) bytes within
+
+-- after a sync each later image has the gate that a read gives
+pub gate_synced : (gate : ℕ) (disk : Seen) → IsSynced disk → GateIsSynced gate disk
+gate_synced gate disk synced = λ f c lt image. ap (λ (l : List ℕ). extent gate 1 l) (synced f c lt image)
+
+-- and reads leave it so
+pub gate_still : (gate : ℕ) (old new : Seen) → old.last ≤ new.last → GateIsSynced gate old → new.bytes ≡ old.bytes → Unchanged old.images new.images → GateIsSynced gate new
+gate_still gate old new le stands same images =
+    λ f c lt image. stands f c (omega (arith, le, lt)) (images.back f c image) ∙ ap (λ (l : List ℕ). extent gate 1 l) (sym same)
 
 -- nothing done yet
 pub may_shut_same : (gate : ℕ) (old new : List ℕ) → Same old new → MayShut gate old new

@@ -16,6 +16,16 @@ Stays e old new = (f : ℕ) (c : List ℕ) → f ≤ e → old f c → new f c
 abbrev pub OnlyAfter : ℕ → List ℕ → (ℕ → List ℕ → Type 0) → Type 0
 OnlyAfter e bytes images = (f : ℕ) (c : List ℕ) → e < f → images f c → c ≡ bytes
 
+-- a disk as clauses see it at a moment: the last era used, what a read gives, and what a crash in an era may leave
+pub record Seen : Type 1 where
+  pub last : ℕ
+  pub bytes : List ℕ
+  pub images : ℕ → List ℕ → Type 0
+
+-- nothing was written since the last sync: a crash in a later era leaves what a read gives
+abbrev pub IsSynced : Seen → Type 0
+IsSynced disk = OnlyAfter disk.last disk.bytes disk.images
+
 -- the same images in every era
 pub record Unchanged (old new : ℕ → List ℕ → Type 0) : Type 0 where
   pub forth : (f : ℕ) (c : List ℕ) → old f c → new f c

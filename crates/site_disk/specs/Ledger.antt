@@ -39,6 +39,18 @@ pub record Uses (era : EraView) (reads writes : ℕ) (old new : Ledger) : Type 0
   pub read : new.read ≤ old.read + reads
   pub written : new.written ≤ old.written + writes
   pub synced : new.synced ≤ new.last
+  pub later : old.synced ≤ new.synced
+
+-- what a call of several eras, the last of which is `to`, does to the numbers; the disk may be used in that era then
+pub record Spends (from to : EraView) (reads writes : ℕ) (old new : Ledger) : Type 0 where
+  pub eras : from.number ≤ to.number
+  pub same_key : to.key ≡ from.key
+  pub may : MayUse to new
+  pub no_earlier : old.last ≤ new.last
+  pub faults : old.faults ≤ new.faults
+  pub read : new.read ≤ old.read + reads
+  pub written : new.written ≤ old.written + writes
+  pub later : old.synced ≤ new.synced
 
 -- a read in this era: its answer is counted, nothing where it failed
 pub record CountsRead (era : EraView) (old new : Ledger) (result : Result ℕ Failed) : Type 0 where

@@ -3,6 +3,8 @@ pub mod BytesLaws
 pub mod Gates
 pub mod GatesLaws
 pub mod Images
+pub mod Seen
+pub mod SeenLaws
 pub mod ImagesLaws
 pub mod Ledger
 pub mod CallsLaws

@@ -21,7 +21,7 @@ impl Model for Era {
 }
 
 impl Era {
-    /// Era 0. Of its key, which only contracts see, nothing is said.
+    /// Era 0. Of its key nothing is said.
     pub fn first() -> Era
         ensures { result.number ≡ 0 }
     {
@@ -34,8 +34,8 @@ impl Era {
         self.number
     }
 
-    // The key, for the devices of this crate.
-    pub(crate) fn key(&self) -> u64
+    /// The key, which ties disks to their eras: a device takes calls only in eras of its own key.
+    pub fn key(&self) -> u64
         ensures { result ≡ self.now.key }
     {
         self.key

@@ -18,7 +18,7 @@ mod syncing;
 pub use disk::Disk;
 pub use era::Era;
 pub use faults::{Failed, OutOfMemory};
-pub use filling::{reach, write_zeros};
+pub use filling::{extend_to, write_zeros};
 pub use gates::close_gate;
 pub use memory::{Choice, MemDisk, MemSink, MemSource};
 pub use streams::{Sink, Source};

@@ -7,8 +7,8 @@ use crate::Failed;
 
 /// A stream of bytes to read.
 pub trait Source {
-    /// Whether the type tells what its sources have left.
-    ghost tells: { Bool };
+    /// Whether clauses speak of what the sources have left.
+    ghost is_modelled: { Bool };
 
     /// The bytes that are left.
     ghost left: { Self → List ℕ };
@@ -19,15 +19,15 @@ pub trait Source {
     /// `Ok(0)` into a buffer that isn't empty is the end. `Failed` takes nothing.
     fn read(&mut self, into: &mut [u8]) -> Result<usize, Failed>
         ensures bound { IfOk result (λ n. n ≤ length into.old) }
-        ensures taken { IsTrue tells → IfOk result (λ n. Takes (left self.old) (left self.new) into.old into.new n) }
+        ensures taken { IsTrue is_modelled → IfOk result (λ n. Takes (left self.old) (left self.new) into.old into.new n) }
         ensures kept { OnErr result (left self.new ≡ left self.old) }
         ensures cause { HasCause (faults self.old) (faults self.new) result };
 }
 
 /// A stream of bytes to write.
 pub trait Sink {
-    /// Whether the type tells what its sinks have taken.
-    ghost tells: { Bool };
+    /// Whether clauses speak of what the sinks have taken.
+    ghost is_modelled: { Bool };
 
     /// The bytes that it has taken.
     ghost taken: { Self → List ℕ };
@@ -38,7 +38,7 @@ pub trait Sink {
     fn write(&mut self, piece: &[u8]) -> Result<usize, Failed>
         ensures bound { IfOk result (λ n. n ≤ length piece.now) }
         ensures some { IfOk result (λ n. 0 < length piece.now → 0 < n) }
-        ensures taken { IsTrue tells → IfOk result (λ n. taken self.new ≡ taken self.old ++ take n piece.now) }
+        ensures taken { IsTrue is_modelled → IfOk result (λ n. taken self.new ≡ taken self.old ++ take n piece.now) }
         ensures kept { OnErr result (taken self.new ≡ taken self.old) }
         ensures cause { HasCause (faults self.old) (faults self.new) result };
 }

@@ -1,22 +1,13 @@
 -- A record stored, as the value over the region does it.
-use Rattle.std.proofs.Common.{◌≡◌, ℕ, ◌+◌, ◌-◌, ◌*◌, ◌<◌, ◌≤◌, List, ◌∷◌, length, arith, ap, subst, sym, ◌∙◌}
+use Rattle.std.proofs.Common.{◌≡◌, ℕ, ◌+◌, ◌-◌, ◌*◌, ◌≤◌, List, ◌∷◌, length, arith, ap, subst, sym, ◌∙◌}
 use Rattle.std.specs.Prelude.{Some}
 use Rattle.site_disk.specs.Bytes.{extent, written, filled, Torn}
 use Rattle.site_disk.specs.BytesLaws.{extent-written, torn_whole, filled_there, length-filled}
-use Rattle.site_disk.specs.Images.{Leaves, OnlyAfter}
+use Rattle.site_disk.specs.Images.{Seen, Leaves}
 use Rattle.site_disk.specs.ImagesLaws.{weaker}
 use Rattle.twin_mark.specs.Marks.{next, current, record_at, record_of, formatted, MarkView, IsMark, Knows, Agrees, Stores, MayStore}
 use Rattle.twin_mark.specs.MarksLaws.{may_store, stored_slot, stores, reaches_other, length-formatted, current-formatted, record_of-formatted}
 use Rattle.twin_mark.specs.Replacing.{replaced, MayReplace}
-
--- what is known of the bytes holds in each later image, where they are the bytes
-pub agrees_after : (view : MarkView) (e now : ℕ) (bytes : List ℕ) (images : ℕ → List ℕ → Type 0)
-    → ((f : ℕ) (c : List ℕ) → now < f → images f c → images (e + 1) c) → OnlyAfter e bytes images → Knows view bytes → Agrees view now bytes images
-agrees_after view e now bytes images pending only knows = record {
-  now = knows;
-  later = λ f c lt image. subst (Knows view) (sym (only (e + 1) c (omega arith) (pending f c lt image))) knows;
-  other_gate = λ f c lt image. ap (λ (l : List ℕ). extent (view.base + (1 - view.slot)) 1 l) (only (e + 1) c (omega arith) (pending f c lt image));
-}
 
 module _ (view : MarkView) (is : IsMark view) (content : List ℕ) (long : length content ≡ 255) where
   abbrev slot : ℕ
@@ -29,26 +20,26 @@ module _ (view : MarkView) (is : IsMark view) (content : List ℕ) (long : lengt
   place = view.base + 256 * (slot + 1)
 
   abbrev piece : List ℕ
-  piece = next view.turn ∷ content
+  piece = next view.sequence ∷ content
 
   pub within : (bytes : List ℕ) → Knows view bytes → place ≤ length bytes
-  within bytes knows = reaches_other view.base view.slot view.turn is.slot is.turn content bytes long knows
+  within bytes knows = reaches_other view.base view.slot view.sequence is.slot is.sequence content bytes long knows
 
-  pub crash : (e last : ℕ) (bytes : List ℕ) (old new : ℕ → List ℕ → Type 0) → last ≤ e → Agrees view last bytes old
-      → Leaves e (MayReplace gate place piece) old new → Leaves e (MayStore view.base content) old new
-  crash e last bytes old new le agrees leaves =
-      weaker (MayStore view.base content) (MayReplace gate place piece) e old old new leaves
-      (λ f d c lt image may. may_store view.base view.slot view.turn is.slot is.turn content d long (agrees.later f d (omega arith) image) c may)
+  pub crash : (e : ℕ) (disk : Seen) (new : ℕ → List ℕ → Type 0) → disk.last ≤ e → Agrees view disk
+      → Leaves e (MayReplace gate place piece) disk.images new → Leaves e (MayStore view.base content) disk.images new
+  crash e disk new le agrees leaves =
+      weaker (MayStore view.base content) (MayReplace gate place piece) e disk.images disk.images new leaves
+      (λ f d c lt image may. may_store view.base view.slot view.sequence is.slot is.sequence content d long (agrees.later f d (omega arith) image) c may)
 
   module _ (old new : List ℕ) (knows : Knows view old) (done : new ≡ replaced gate place piece (filled place old)) where
     is_replaced : new ≡ replaced gate place piece old
     is_replaced = done ∙ ap (replaced gate place piece) (filled_there place old (within old knows))
 
     pub stored : Stores view.base content old new
-    stored = stores view.base view.slot view.turn is.slot is.turn content old long knows new is_replaced
+    stored = stores view.base view.slot view.sequence is.slot is.sequence content old long knows new is_replaced
 
-    pub knows_stored : Knows (record { base = view.base; slot = slot; turn = next view.turn }) new
-    knows_stored = stored_slot view.base view.slot view.turn is.slot is.turn content old long knows new is_replaced
+    pub knows_stored : Knows (record { base = view.base; slot = slot; sequence = next view.sequence }) new
+    knows_stored = stored_slot view.base view.slot view.sequence is.slot is.sequence content old long knows new is_replaced
 
 module _ (base : ℕ) (content old new : List ℕ) (long : length content ≡ 255) (done : new ≡ written base (formatted content) (filled base old)) where
   region_is : extent base 1024 new ≡ formatted content
@@ -57,7 +48,7 @@ module _ (base : ℕ) (content old new : List ℕ) (long : length content ≡ 25
       ∙ ap (λ (n : ℕ). extent base n (written base (formatted content) (filled base old))) (sym (length-formatted content long))
       ∙ extent-written base (formatted content) (filled base old) (omega (arith, length-filled base old))
 
-  pub knows_formatted : Knows (record { base = base; slot = 0; turn = 0 }) new
+  pub knows_formatted : Knows (record { base = base; slot = 0; sequence = 0 }) new
   knows_formatted = ap current region_is ∙ current-formatted content long
 
   pub record_formatted : record_at base new ≡ Some content

@@ -1,5 +1,5 @@
 -- Laws of marks.
-use Rattle.std.specs.Prelude.{◌≡◌, ◌⊎◌, ℕ, zero, suc, ◌+◌, ◌-◌, ◌*◌, ◌%◌, ◌<◌, ◌≤◌, List, [], ◌∷◌, ◌++◌, length, take, drop, replicate, Bool, true, false, nat_eq, Option, None, Some, refl}
+use Rattle.std.specs.Prelude.{◌≡◌, ◌⊎◌, ℕ, zero, suc, ◌+◌, ◌-◌, ◌*◌, ◌≤◌, List, [], ◌∷◌, length, take, drop, replicate, Bool, true, false, nat_eq, Option, None, Some, refl}
 use mathlib.Core.Logic.{inl, inr}
 use Rattle.std.specs.Prelude.{◌&&◌, nat_le, if◌then◌else◌}
 use Rattle.std.proofs.Common.{arith, ap, sym, ◌∙◌, ⊎_elim, subst, eq-eqb, length-drop, length-append}
@@ -8,30 +8,32 @@ use Rattle.std.proofs.lemmas.Bool.Decides.{nat_tests}
 use Rattle.site_disk.specs.Bytes.{extent, written, Torn, Apart}
 use Rattle.site_disk.specs.BytesLaws.{extent-extent, extent-written, length-extent, torn_whole, torn_wider, torn_again}
 use Rattle.site_disk.specs.Gates.{shut, MayShut}
-use Rattle.site_disk.specs.GatesLaws.{is_shut, behind_any, behind_torn}
+use Rattle.site_disk.specs.GatesLaws.{is_shut, gate_synced, behind_any, behind_torn}
+use Rattle.site_disk.specs.Images.{Seen, IsSynced}
+use Rattle.site_disk.specs.SeenLaws.{in_each_image}
 use Rattle.twin_mark.specs.declared.slots.Current.{Current}
 use Rattle.twin_mark.specs.Replacing.{replaced, MayReplace}
-use Rattle.twin_mark.specs.Marks.{next, turn_of, turn_by, gate, body, turn, later_of, chosen, current, held, record_of, record_at, formatted, Stores, MayStore}
+use Rattle.twin_mark.specs.Marks.{next, sequence_of, sequence_by, gate, body, sequence, later_of, chosen, current, held, record_of, record_at, formatted, MarkView, Knows, Agrees, Stores, MayStore}
 
 -- of the two slots
 
--- the turns of a slot on a disk, by its gate and its body
-abbrev pub turn_at : ℕ → List ℕ → ℕ → Option ℕ
-turn_at base bytes i = turn_by (extent (base + i) 1 bytes) (extent (base + 256 * (i + 1)) 256 bytes)
+-- the sequences of a slot on a disk, by its gate and its body
+abbrev pub sequence_at : ℕ → List ℕ → ℕ → Option ℕ
+sequence_at base bytes i = sequence_by (extent (base + i) 1 bytes) (extent (base + 256 * (i + 1)) 256 bytes)
 
-turn-extent : (i base n : ℕ) (bytes : List ℕ) → i ≤ 1 → 768 ≤ n → turn i (extent base n bytes) ≡ turn_at base bytes i
-turn-extent i base n bytes le long =
-    ap (λ (g : List ℕ). turn_by g (body i (extent base n bytes))) (extent-extent i 1 base n bytes (omega arith))
-    ∙ ap (λ (b : List ℕ). turn_by (extent (base + i) 1 bytes) b) (extent-extent (256 * (i + 1)) 256 base n bytes (omega arith))
+sequence-extent : (i base n : ℕ) (bytes : List ℕ) → i ≤ 1 → 768 ≤ n → sequence i (extent base n bytes) ≡ sequence_at base bytes i
+sequence-extent i base n bytes le long =
+    ap (λ (g : List ℕ). sequence_by g (body i (extent base n bytes))) (extent-extent i 1 base n bytes (omega arith))
+    ∙ ap (λ (b : List ℕ). sequence_by (extent (base + i) 1 bytes) b) (extent-extent (256 * (i + 1)) 256 base n bytes (omega arith))
 
 -- the current slot is decided by the region's first 768 bytes
-pub current-extent : (base n : ℕ) (bytes : List ℕ) → 768 ≤ n → current (extent base n bytes) ≡ chosen (turn_at base bytes 0) (turn_at base bytes 1)
+pub current-extent : (base n : ℕ) (bytes : List ℕ) → 768 ≤ n → current (extent base n bytes) ≡ chosen (sequence_at base bytes 0) (sequence_at base bytes 1)
 current-extent base n bytes long =
-    ap (λ (a : Option ℕ). chosen a (turn 1 (extent base n bytes))) (turn-extent 0 base n bytes (omega arith) long)
-    ∙ ap (λ (b : Option ℕ). chosen (turn_at base bytes 0) b) (turn-extent 1 base n bytes (omega arith) long)
+    ap (λ (a : Option ℕ). chosen a (sequence 1 (extent base n bytes))) (sequence-extent 0 base n bytes (omega arith) long)
+    ∙ ap (λ (b : Option ℕ). chosen (sequence_at base bytes 0) b) (sequence-extent 1 base n bytes (omega arith) long)
 
 abbrev some_at : ℕ → ℕ → Option Current
-some_at s t = Some (record { slot = s; turn = t })
+some_at s t = Some (record { slot = s; sequence = t })
 
 same_current : (a b s t : ℕ) → some_at a b ≡ some_at s t → (a ≡ s) × (b ≡ t)
 same_current a b s t is = (ap slot_in is, ap turn_in is)
@@ -42,7 +44,7 @@ same_current a b s t is = (ap slot_in is, ap turn_in is)
 
     turn_in : Option Current → ℕ
     turn_in None = 0
-    turn_in (Some at) = at.turn
+    turn_in (Some at) = at.sequence
 
 stands_later : (first second s t : ℕ) (test : Bool) → Some (later_of first second test) ≡ some_at s t → ((s ≡ 0) × (Some first ≡ Some t)) ⊎ ((s ≡ 1) × (Some second ≡ Some t))
 stands_later first second s t true is = inr (let e = same_current 1 second s t is in (sym e.0, ap Some e.1))
@@ -76,7 +78,7 @@ not_after (suc zero) le = refl
 not_after (suc (suc zero)) le = refl
 not_after (suc (suc (suc t))) le = absurd (omega (arith, le))
 
--- a next turn in the other slot makes that one current
+-- a next sequence in the other slot makes that one current
 moves : (s t : ℕ) (U : ℕ → Option ℕ) → s ≤ 1 → t ≤ 2 → U s ≡ Some t → U (1 - s) ≡ Some (next t) → chosen (U 0) (U 1) ≡ some_at (1 - s) (next t)
 moves zero t U le small mine is =
     chosen_same (U 0) (U 1) (Some t) (Some (next t)) mine is ∙ ap (λ (test : Bool). Some (later_of t (next t) test)) (eq-eqb (next t) (next t) refl)
@@ -86,18 +88,18 @@ moves (suc (suc s)) t U le small mine is = absurd (omega (arith, le))
 
 -- of bodies
 
-turn_whole : (turn t : ℕ) (content : List ℕ) (test : Bool) → (nat_eq (length content) 255 && nat_le turn 2) ≡ test → (if test then Some turn else None) ≡ Some t → length content ≡ 255
-turn_whole turn t content true is some = grind (arith, nat_tests)
-turn_whole turn t content false is some = cc
+turn_whole : (sequence t : ℕ) (content : List ℕ) (test : Bool) → (nat_eq (length content) 255 && nat_le sequence 2) ≡ test → (if test then Some sequence else None) ≡ Some t → length content ≡ 255
+turn_whole sequence t content true is some = grind (arith, nat_tests)
+turn_whole sequence t content false is some = cc
 
-whole_body : (t : ℕ) (gate body : List ℕ) → turn_by gate body ≡ Some t → length body ≡ 256
+whole_body : (t : ℕ) (gate body : List ℕ) → sequence_by gate body ≡ Some t → length body ≡ 256
 whole_body t [] body is = cc
 whole_body t (zero ∷ more) body is = cc
 whole_body t (suc gate ∷ more) [] is = cc
-whole_body t (suc gate ∷ more) (turn ∷ content) is = omega (arith, turn_whole turn t content (nat_eq (length content) 255 && nat_le turn 2) refl is)
+whole_body t (suc gate ∷ more) (sequence ∷ content) is = omega (arith, turn_whole sequence t content (nat_eq (length content) 255 && nat_le sequence 2) refl is)
 
-turn_of-whole : (turn : ℕ) (content : List ℕ) → length content ≡ 255 → turn ≤ 2 → turn_of (turn ∷ content) ≡ Some turn
-turn_of-whole turn content long small = grind (arith, nat_tests)
+sequence_of-whole : (sequence : ℕ) (content : List ℕ) → length content ≡ 255 → sequence ≤ 2 → sequence_of (sequence ∷ content) ≡ Some sequence
+sequence_of-whole sequence content long small = grind (arith, nat_tests)
 
 -- of a region on a disk
 
@@ -112,13 +114,13 @@ apart_bodies base zero le = inl (omega arith)
 apart_bodies base (suc zero) le = inr (omega arith)
 apart_bodies base (suc (suc s)) le = absurd (omega (arith, le))
 
--- a disk whose current slot is s, with turn t
+-- a disk whose current slot is s, with sequence t
 module _ (base s t : ℕ) (le : s ≤ 1) (bytes : List ℕ) (is : current (extent base 1024 bytes) ≡ some_at s t) where
-  known : chosen (turn_at base bytes 0) (turn_at base bytes 1) ≡ some_at s t
+  known : chosen (sequence_at base bytes 0) (sequence_at base bytes 1) ≡ some_at s t
   known = sym (current-extent base 1024 bytes (omega arith)) ∙ is
 
-  mine : turn_at base bytes s ≡ Some t
-  mine = stands s t (turn_at base bytes) known
+  mine : sequence_at base bytes s ≡ Some t
+  mine = stands s t (sequence_at base bytes) known
 
   -- its body lies within the disk, and so does the other slot
   pub reaches : base + 256 * (s + 1) + 256 ≤ length bytes
@@ -133,15 +135,15 @@ module _ (base s t : ℕ) (le : s ≤ 1) (bytes : List ℕ) (is : current (exten
 
   -- other bytes with the same slot s
   module _ (new : List ℕ) (gate_is : extent (base + s) 1 new ≡ extent (base + s) 1 bytes) (body_is : extent (base + 256 * (s + 1)) 256 new ≡ extent (base + 256 * (s + 1)) 256 bytes) where
-    still : turn_at base new s ≡ turn_at base bytes s
-    still = ap (λ (g : List ℕ). turn_by g (extent (base + 256 * (s + 1)) 256 new)) gate_is ∙ ap (λ (b : List ℕ). turn_by (extent (base + s) 1 bytes) b) body_is
+    still : sequence_at base new s ≡ sequence_at base bytes s
+    still = ap (λ (g : List ℕ). sequence_by g (extent (base + 256 * (s + 1)) 256 new)) gate_is ∙ ap (λ (b : List ℕ). sequence_by (extent (base + s) 1 bytes) b) body_is
 
-    module _ (other : (turn_at base new (1 - s) ≡ None) ⊎ (turn_at base new (1 - s) ≡ turn_at base bytes (1 - s))) where
+    module _ (other : (sequence_at base new (1 - s) ≡ None) ⊎ (sequence_at base new (1 - s) ≡ sequence_at base bytes (1 - s))) where
       pub current_stays : current (extent base 1024 new) ≡ some_at s t
-      current_stays = current-extent base 1024 new (omega arith) ∙ stays s t (turn_at base bytes) (turn_at base new) le known still other
+      current_stays = current-extent base 1024 new (omega arith) ∙ stays s t (sequence_at base bytes) (sequence_at base new) le known still other
 
-    pub current_moves : t ≤ 2 → turn_at base new (1 - s) ≡ Some (next t) → current (extent base 1024 new) ≡ some_at (1 - s) (next t)
-    current_moves small other = current-extent base 1024 new (omega arith) ∙ moves s t (turn_at base new) le small (still ∙ mine) other
+    pub current_moves : t ≤ 2 → sequence_at base new (1 - s) ≡ Some (next t) → current (extent base 1024 new) ≡ some_at (1 - s) (next t)
+    current_moves small other = current-extent base 1024 new (omega arith) ∙ moves s t (sequence_at base new) le small (still ∙ mine) other
 
 -- the same record, where slot s is the same and stays current
 same_record : (base s t : ℕ) → s ≤ 1 → (old new : List ℕ) → current (extent base 1024 old) ≡ some_at s t → current (extent base 1024 new) ≡ some_at s t
@@ -206,7 +208,7 @@ module _ (base s t : ℕ) (le : s ≤ 1) (small : t ≤ 2) (content old : List �
   -- the old record
   keeps : (new : List ℕ) → Torn base 1024 old new → extent (base + s) 1 new ≡ extent (base + s) 1 old
       → extent (base + 256 * (s + 1)) 256 new ≡ extent (base + 256 * (s + 1)) 256 old
-      → (turn_at base new other ≡ None) ⊎ (turn_at base new other ≡ turn_at base old other) → MayStore base content old new
+      → (sequence_at base new other ≡ None) ⊎ (sequence_at base new other ≡ sequence_at base old other) → MayStore base content old new
   keeps new torn gate_is body_is may = record {
     mark = inl (same_record base s t le old new is (current_stays base s t le old is new gate_is body_is may) body_is);
     elsewhere = torn.elsewhere;
@@ -220,9 +222,9 @@ module _ (base s t : ℕ) (le : s ≤ 1) (small : t ≤ 2) (content old : List �
       let body_is : extent place 256 new ≡ extent place 256 old = may.torn.elsewhere place 256 (inr (omega arith)) in
       keeps new (in_region_gate old new may.torn) (gate_by_gate old new may.torn) (body_by_gate old new may.torn)
       (⊎_elim
-      (λ none. inl (ap (λ (b : List ℕ). turn_by (extent at_gate 1 new) b) body_is ∙ none))
-      (λ same. inr (ap (λ (b : List ℕ). turn_by (extent at_gate 1 new) b) body_is ∙ same))
-      (behind_torn (extent at_gate 1 old) (extent at_gate 1 new) (turn_of (extent place 256 old)) one kept))
+      (λ none. inl (ap (λ (b : List ℕ). sequence_by (extent at_gate 1 new) b) body_is ∙ none))
+      (λ same. inr (ap (λ (b : List ℕ). sequence_by (extent at_gate 1 new) b) body_is ∙ same))
+      (behind_torn (extent at_gate 1 old) (extent at_gate 1 new) (sequence_of (extent place 256 old)) one kept))
 
   -- behind a closed gate, whatever the body
   by_filling : (new : List ℕ) → Torn place 256 closed new → MayStore base content old new
@@ -231,7 +233,7 @@ module _ (base s t : ℕ) (le : s ≤ 1) (small : t ≤ 2) (content old : List �
       keeps new (torn_again base 1024 old closed new (in_region_gate old closed closing) (in_region_body closed new torn))
       (gate_by_body closed new torn ∙ gate_by_gate old closed closing)
       (body_by_body closed new torn ∙ body_by_gate old closed closing)
-      (inl (ap (λ (g : List ℕ). turn_by g (extent place 256 new)) gate_is))
+      (inl (ap (λ (g : List ℕ). sequence_by g (extent place 256 new)) gate_is))
 
   -- and the gate, torn or whole, before the new body
   module _ (new : List ℕ) (torn : Torn at_gate 1 filled_slot new) where
@@ -253,28 +255,28 @@ module _ (base s t : ℕ) (le : s ≤ 1) (small : t ≤ 2) (content old : List �
         ∙ ap (λ (n : ℕ). extent place n filled_slot) (sym long_piece)
         ∙ extent-written place piece closed (omega (arith, closing.no_shorter, reaches_other))
 
-    pub moved : turn_at base new other ≡ Some (next t) → current (extent base 1024 new) ≡ some_at other (next t)
+    pub moved : sequence_at base new other ≡ Some (next t) → current (extent base 1024 new) ≡ some_at other (next t)
     moved turned = current_moves base s t le old is new gate_is body_is small turned
 
-    pub new_record : turn_at base new other ≡ Some (next t) → record_at base new ≡ Some content
+    pub new_record : sequence_at base new other ≡ Some (next t) → record_at base new ≡ Some content
     new_record turned = record_at-current base other (next t) (omega arith) new (moved turned) ∙ ap (λ (b : List ℕ). Some (drop 1 b)) other_is
 
-    turn_is : turn_of piece ≡ Some (next t)
-    turn_is = turn_of-whole (next t) content long (omega arith)
+    sequence_is : sequence_of piece ≡ Some (next t)
+    sequence_is = sequence_of-whole (next t) content long (omega arith)
 
     by_opening : MayStore base content old new
     by_opening = ⊎_elim
         (λ none. keeps new in_region gate_is body_is (inl none))
         (λ turned. record {
-          mark = inr (new_record (turned ∙ ap turn_of other_is ∙ turn_is));
+          mark = inr (new_record (turned ∙ ap sequence_of other_is ∙ sequence_is));
           elsewhere = in_region.elsewhere;
           no_shorter = in_region.no_shorter;
         })
-        (behind_any (extent at_gate 1 new) (turn_of (extent place 256 new)))
+        (behind_any (extent at_gate 1 new) (sequence_of (extent place 256 new)))
 
     -- where it stands open
-    pub opened : extent at_gate 1 new ≡ 1 ∷ [] → turn_at base new other ≡ Some (next t)
-    opened one = ap (λ (g : List ℕ). turn_by g (extent place 256 new)) one ∙ ap turn_of other_is ∙ turn_is
+    pub opened : extent at_gate 1 new ≡ 1 ∷ [] → sequence_at base new other ≡ Some (next t)
+    opened one = ap (λ (g : List ℕ). sequence_by g (extent place 256 new)) one ∙ ap sequence_of other_is ∙ sequence_is
 
   -- what a stop within the replacing leaves
   pub may_store : (new : List ℕ) → MayReplace at_gate place piece old new → MayStore base content old new
@@ -302,9 +304,9 @@ module _ (base s t : ℕ) (le : s ≤ 1) (small : t ≤ 2) (content old : List �
 
 -- of reading
 
--- the record behind the turn of a body
-pub behind_turn : (at : ℕ) (bytes : List ℕ) → extent (at + 1) 255 bytes ≡ drop 1 (extent at 256 bytes)
-behind_turn at bytes = ap (λ (l : List ℕ). take 255 l) (sym (drop-drop 1 at bytes)) ∙ sym (drop-take 1 255 (drop at bytes))
+-- the record behind the sequence of a body
+pub behind_sequence : (at : ℕ) (bytes : List ℕ) → extent (at + 1) 255 bytes ≡ drop 1 (extent at 256 bytes)
+behind_sequence at bytes = ap (λ (l : List ℕ). take 255 l) (sym (drop-drop 1 at bytes)) ∙ sym (drop-take 1 255 (drop at bytes))
 
 -- the region's first 768 bytes decide which record stands there
 pub same_slots : (base n : ℕ) (bytes : List ℕ) → 768 ≤ n → current (extent base n bytes) ≡ current (extent base 1024 bytes)
@@ -313,15 +315,15 @@ same_slots base n bytes long = current-extent base n bytes long ∙ sym (current
 pub same_record_of : (base n : ℕ) (bytes : List ℕ) → 768 ≤ n → record_of (extent base n bytes) ≡ record_at base bytes
 same_record_of base n bytes long = by (current (extent base n bytes)) refl
   where
-    slot_is : (s t n : ℕ) → current (extent base n bytes) ≡ Some (record { slot = s; turn = t }) → s ≤ 1
-    slot_is s t n is = ⊎_elim (λ at. omega (arith, at.0)) (λ at. omega (arith, at.0)) (from_chosen s t (turn 0 (extent base n bytes)) (turn 1 (extent base n bytes)) is)
+    slot_is : (s t n : ℕ) → current (extent base n bytes) ≡ Some (record { slot = s; sequence = t }) → s ≤ 1
+    slot_is s t n is = ⊎_elim (λ at. omega (arith, at.0)) (λ at. omega (arith, at.0)) (from_chosen s t (sequence 0 (extent base n bytes)) (sequence 1 (extent base n bytes)) is)
 
     by : (at : Option Current) → current (extent base n bytes) ≡ at → record_of (extent base n bytes) ≡ record_at base bytes
     by None is = ap (held (extent base n bytes)) is ∙ sym (ap (held (extent base 1024 bytes)) (sym (same_slots base n bytes long) ∙ is))
     by (Some at) is =
         ap (held (extent base n bytes)) is
-        ∙ ap (λ (b : List ℕ). Some (drop 1 b)) (extent-extent (256 * (at.slot + 1)) 256 base n bytes (omega (arith, long, slot_is at.slot at.turn n is)))
-        ∙ ap (λ (b : List ℕ). Some (drop 1 b)) (sym (extent-extent (256 * (at.slot + 1)) 256 base 1024 bytes (omega (arith, slot_is at.slot at.turn n is))))
+        ∙ ap (λ (b : List ℕ). Some (drop 1 b)) (extent-extent (256 * (at.slot + 1)) 256 base n bytes (omega (arith, long, slot_is at.slot at.sequence n is)))
+        ∙ ap (λ (b : List ℕ). Some (drop 1 b)) (sym (extent-extent (256 * (at.slot + 1)) 256 base 1024 bytes (omega (arith, slot_is at.slot at.sequence n is))))
         ∙ sym (ap (held (extent base 1024 bytes)) (sym (same_slots base n bytes long) ∙ is))
 
 -- of a formatted region
@@ -335,19 +337,27 @@ module _ (content : List ℕ) (long : length content ≡ 255) where
   unfolding formatted
   body-formatted = ap (λ (l : List ℕ). 0 ∷ l) (take_at content (replicate 512 0) 255 long)
 
-  open-formatted : turn 0 (formatted content) ≡ turn_of (body 0 (formatted content))
+  open-formatted : sequence 0 (formatted content) ≡ sequence_of (body 0 (formatted content))
   unfolding formatted
   open-formatted = refl
 
-  turn-formatted : turn 0 (formatted content) ≡ Some 0
-  turn-formatted = open-formatted ∙ ap turn_of body-formatted ∙ turn_of-whole 0 content long (omega arith)
+  sequence-formatted : sequence 0 (formatted content) ≡ Some 0
+  sequence-formatted = open-formatted ∙ ap sequence_of body-formatted ∙ sequence_of-whole 0 content long (omega arith)
 
-  closed-formatted : turn 1 (formatted content) ≡ None
+  closed-formatted : sequence 1 (formatted content) ≡ None
   unfolding formatted
   closed-formatted = refl
 
   pub current-formatted : current (formatted content) ≡ some_at 0 0
-  current-formatted = chosen_same (turn 0 (formatted content)) (turn 1 (formatted content)) (Some 0) None turn-formatted closed-formatted
+  current-formatted = chosen_same (sequence 0 (formatted content)) (sequence 1 (formatted content)) (Some 0) None sequence-formatted closed-formatted
 
   pub record_of-formatted : record_of (formatted content) ≡ Some content
   record_of-formatted = ap (held (formatted content)) current-formatted ∙ ap (λ (b : List ℕ). Some (drop 1 b)) body-formatted
+
+-- a value that knows the current record agrees with the disk after a sync
+pub agrees_synced : (view : MarkView) (disk : Seen) → IsSynced disk → Knows view disk.bytes → Agrees view disk
+agrees_synced view disk synced knows = record {
+  now = knows;
+  later = in_each_image (Knows view) disk synced knows;
+  other_gate = gate_synced (view.base + (1 - view.slot)) disk synced;
+}

@@ -2,8 +2,9 @@
 ghost use Rattle.std.specs.Prelude.{◌≡◌, ◌+◌, ◌^◌, ◌<◌, ◌≤◌, length, IsTrue, Some, None, OnOk, OnErr, IsErrOf};
 ghost use Rattle.site_disk.specs.Bytes.{Same, Torn};
 ghost use Rattle.site_disk.specs.Causes.{Rose, HasCause};
-ghost use Rattle.site_disk.specs.Images.{Leaves, OnlyAfter, Unchanged};
+ghost use Rattle.site_disk.specs.Images.{Leaves, OnlyAfter, IsSynced, Unchanged};
 ghost use Rattle.site_disk.specs.Ledger.{MayUse, Uses};
+ghost use Rattle.site_disk.specs.Seen.{seen};
 
 use crate::slots::{put_record, read_record, write_region};
 use site_disk::{Disk, Era, Failed};
@@ -11,15 +12,15 @@ use std::marker::Model;
 
 /// A record of 255 bytes on a disk that changes whole or not at all.
 ///
-/// Its region of 1,024 bytes has two slots that hold the record in turn: bytes 0 and 1 are their gates, and a turn and
+/// Its region of 1,024 bytes has two slots that hold the record in sequence: bytes 0 and 1 are their gates, and a sequence and
 /// the record stand at byte 256 of the region for slot 0 and at byte 512 for slot 1. A slot is valid where its gate isn't 0,
-/// its body lies within the disk and its turn is 0, 1 or 2. Of two valid ones that counts whose turn comes after the
+/// its body lies within the disk and its sequence is 0, 1 or 2. Of two valid ones that counts whose sequence comes after the
 /// other's, counted modulo 3, and slot 0 where they are equal.
 #[derive(Drop)]
 pub struct Mark {
     base: u64,
     slot: u64,
-    turn: u8,
+    sequence: u8,
 }
 
 impl Model for Mark {
@@ -27,9 +28,9 @@ impl Model for Mark {
 
     ghost Value = { MarkView };
 
-    ghost view = { λ m. record { base = m.base; slot = m.slot; turn = m.turn } };
+    ghost view = { λ m. record { base = m.base; slot = m.slot; sequence = m.sequence } };
 
-    ghost invariant = { λ m. IsMark (record { base = m.base; slot = m.slot; turn = m.turn }) };
+    ghost invariant = { λ m. IsMark (record { base = m.base; slot = m.slot; sequence = m.sequence }) };
 }
 
 /// Why no record was loaded.
@@ -63,7 +64,7 @@ impl Mark {
         Mark {
             base,
             slot: 0,
-            turn: 0,
+            sequence: 0,
         }
     }
 
@@ -82,24 +83,24 @@ impl Mark {
         ensures base { self.new.base ≡ self.old.base }
         ensures value { OnErr result (self.new ≡ self.old) }
 
-        ensures stored { IsTrue D.tells → self.old.base ≤ length (D.bytes disk.old)
+        ensures stored { IsTrue D.is_modelled → self.old.base ≤ length (D.bytes disk.old)
             → OnOk result (Stores self.old.base body.now (D.bytes disk.old) (D.bytes disk.new)) }
-        ensures new_record { IsTrue D.tells → OnOk result (record_at self.old.base (D.bytes disk.new) ≡ Some body.now) }
-        ensures agrees { IsTrue D.tells
-            → OnOk result (Agrees self.new (D.ledger disk.new).last (D.bytes disk.new) (D.image disk.new)) }
-        ensures durable { IsTrue D.tells
+        ensures new_record { IsTrue D.is_modelled → OnOk result (record_at self.old.base (D.bytes disk.new) ≡ Some body.now) }
+        ensures agrees { IsTrue D.is_modelled
+            → OnOk result (Agrees self.new (seen D.Disk disk.new)) }
+        ensures durable { IsTrue D.is_modelled
             → OnOk result (OnlyAfter era.now.number (D.bytes disk.new) (D.image disk.new)) }
-        ensures crash { IsTrue D.tells → self.old.base ≤ length (D.bytes disk.old)
+        ensures crash { IsTrue D.is_modelled → self.old.base ≤ length (D.bytes disk.old)
             → Leaves era.now.number (Torn self.old.base 1024) (D.image disk.old) (D.image disk.new) }
 
         ensures ledger { Uses era.now 0 (self.old.base + 1024) (D.ledger disk.old) (D.ledger disk.new) }
-        ensures bound { IsTrue D.tells → self.old.base ≤ length (D.bytes disk.old)
+        ensures bound { IsTrue D.is_modelled → self.old.base ≤ length (D.bytes disk.old)
             → (D.ledger disk.new).written ≤ (D.ledger disk.old).written + 1024 }
         ensures cause { HasCause (D.ledger disk.old).faults (D.ledger disk.new).faults result }
     {
         write_region(disk, era, self.base, body)?;
         self.slot = 0;
-        self.turn = 0;
+        self.sequence = 0;
         Ok(())
     }
 
@@ -113,15 +114,15 @@ impl Mark {
         requires { MayUse era.now (D.ledger disk.old) }
 
         ensures base { self.new.base ≡ self.old.base }
-        ensures found { IsTrue D.tells → OnOk result (record_at self.old.base (D.bytes disk.old) ≡ Some body.new) }
-        ensures no_mark { IsTrue D.tells
+        ensures found { IsTrue D.is_modelled → OnOk result (record_at self.old.base (D.bytes disk.old) ≡ Some body.new) }
+        ensures no_mark { IsTrue D.is_modelled
             → IsErrOf result MarkFault.NoMark → record_at self.old.base (D.bytes disk.old) ≡ None }
         ensures value { OnErr result (self.new ≡ self.old) }
         ensures body { OnErr result (body.new ≡ body.old) }
 
         // Where nothing was written since the last sync.
-        ensures agrees { IsTrue D.tells → OnlyAfter (D.ledger disk.old).last (D.bytes disk.old) (D.image disk.old)
-            → OnOk result (Agrees self.new (D.ledger disk.new).last (D.bytes disk.new) (D.image disk.new)) }
+        ensures agrees { IsTrue D.is_modelled → IsSynced (seen D.Disk disk.old)
+            → OnOk result (Agrees self.new (seen D.Disk disk.new)) }
         ensures bytes { OnOk result (D.bytes disk.new ≡ D.bytes disk.old) }
         ensures images { OnOk result (Unchanged (D.image disk.old) (D.image disk.new)) }
         ensures refused_bytes { IsErrOf result MarkFault.NoMark → D.bytes disk.new ≡ D.bytes disk.old }
@@ -136,7 +137,7 @@ impl Mark {
             return Err(MarkFault::NoMark);
         };
         self.slot = at.slot;
-        self.turn = at.turn;
+        self.sequence = at.sequence;
         Ok(())
     }
 
@@ -156,27 +157,27 @@ impl Mark {
         ensures base { self.new.base ≡ self.old.base }
         ensures value { OnErr result (self.new ≡ self.old) }
 
-        ensures stored { IsTrue D.tells → Knows self.old (D.bytes disk.old)
+        ensures stored { IsTrue D.is_modelled → Knows self.old (D.bytes disk.old)
             → OnOk result (Stores self.old.base body.now (D.bytes disk.old) (D.bytes disk.new)) }
-        ensures agrees { IsTrue D.tells → Knows self.old (D.bytes disk.old)
-            → OnOk result (Agrees self.new (D.ledger disk.new).last (D.bytes disk.new) (D.image disk.new)) }
-        ensures durable { IsTrue D.tells
+        ensures agrees { IsTrue D.is_modelled → Knows self.old (D.bytes disk.old)
+            → OnOk result (Agrees self.new (seen D.Disk disk.new)) }
+        ensures durable { IsTrue D.is_modelled
             → OnOk result (OnlyAfter era.now.number (D.bytes disk.new) (D.image disk.new)) }
-        ensures crash { IsTrue D.tells
-            → Agrees self.old (D.ledger disk.old).last (D.bytes disk.old) (D.image disk.old)
+        ensures crash { IsTrue D.is_modelled
+            → Agrees self.old (seen D.Disk disk.old)
             → Leaves era.now.number (MayStore self.old.base body.now) (D.image disk.old) (D.image disk.new) }
 
         ensures ledger { Uses era.now 1 (self.old.base + 770) (D.ledger disk.old) (D.ledger disk.new) }
-        ensures bound { IsTrue D.tells → Knows self.old (D.bytes disk.old)
+        ensures bound { IsTrue D.is_modelled → Knows self.old (D.bytes disk.old)
             → (D.ledger disk.new).written ≤ (D.ledger disk.old).written + 258 }
         ensures cause { HasCause (D.ledger disk.old).faults (D.ledger disk.new).faults result }
     {
         let slot = 1 - self.slot;
-        let turn = (self.turn + 1) % 3;
+        let sequence = (self.sequence + 1) % 3;
         let place = self.base + 256 * (slot + 1);
-        put_record(disk, era, self.base + slot, place, turn, body)?;
+        put_record(disk, era, self.base + slot, place, sequence, body)?;
         self.slot = slot;
-        self.turn = turn;
+        self.sequence = sequence;
         Ok(())
     }
 }

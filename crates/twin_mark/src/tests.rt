@@ -36,7 +36,7 @@ fn the_last_record_is_loaded(rt: HostRuntime) -> Result<(), Fail> {
     Ok(())
 }
 
-// Gates, turns, the bytes of the disk, and the record that counts: slot 0 holds 10, slot 1 holds 11, and 0 is none.
+// Gates, sequences, the bytes of the disk, and the record that counts: slot 0 holds 10, slot 1 holds 11, and 0 is none.
 static SLOTS: [([u8; 2], [u8; 2], usize, u8); 16] = [
     ([0, 0], [0, 0], 768, 0),
     ([1, 0], [0, 0], 768, 10),
@@ -56,25 +56,25 @@ static SLOTS: [([u8; 2], [u8; 2], usize, u8); 16] = [
     ([1, 0], [0, 0], 511, 0),
 ];
 
-fn lay_slots(region: &mut [u8], gates: [u8; 2], turns: [u8; 2])
+fn lay_slots(region: &mut [u8], gates: [u8; 2], sequences: [u8; 2])
     requires { length region.old ≡ 768 }
 {
     region[257..512].fill(10);
     region[513..].fill(11);
     region[0] = gates[0];
     region[1] = gates[1];
-    region[256] = turns[0];
-    region[512] = turns[1];
+    region[256] = sequences[0];
+    region[512] = sequences[1];
 }
 
 fn front(bytes: &[u8], len: usize) -> &[u8] {
     &bytes[..len.min(bytes.len())]
 }
 
-fn loaded(alloc: Global, gates: [u8; 2], turns: [u8; 2], len: usize) -> Result<u8, Fail> {
+fn loaded(alloc: Global, gates: [u8; 2], sequences: [u8; 2], len: usize) -> Result<u8, Fail> {
     let era = Era::first();
     let mut region = [0; 768];
-    lay_slots(&mut region, gates, turns);
+    lay_slots(&mut region, gates, sequences);
     let bytes = Vec::from_slice(alloc, front(&region, len))?;
     let mut disk = MemDisk::new(alloc, &era, bytes);
     let mut found = [0; 255];
@@ -86,10 +86,10 @@ fn loaded(alloc: Global, gates: [u8; 2], turns: [u8; 2], len: usize) -> Result<u
 }
 
 #[test]
-fn the_slot_with_the_later_turn_counts(rt: HostRuntime) -> Result<(), Fail> {
+fn the_slot_with_the_later_sequence_counts(rt: HostRuntime) -> Result<(), Fail> {
     let alloc = rt.alloc();
-    for (gates, turns, len, record) in SLOTS {
-        assert_eq!(rt; loaded(alloc, gates, turns, len)?, record);
+    for (gates, sequences, len, record) in SLOTS {
+        assert_eq!(rt; loaded(alloc, gates, sequences, len)?, record);
     }
     Ok(())
 }

@@ -269,7 +269,7 @@ impl Disk for MemDisk {
     ghost use Rattle.site_disk.specs.DiskPlans.{CallFails, plan_after, front_put};
     ghost use Rattle.site_disk.specs.MemDisk.{disk_bytes, disk_image, disk_ledger, disk_plan, disk_faults, disk_calls_room, disk_bytes_room, HasRoom, disk_now_counts, disk_reads_as};
 
-    ghost tells = { true };
+    ghost is_modelled = { true };
 
     ghost bytes = { disk_bytes };
 

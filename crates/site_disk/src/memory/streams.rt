@@ -41,7 +41,7 @@ impl Source for MemSource {
     ghost use Rattle.site_disk.specs.Plans.{FailsNext, counted_on};
     ghost use Rattle.site_disk.specs.MemStreams.{source_left, source_faults, source_plan};
 
-    ghost tells = { true };
+    ghost is_modelled = { true };
 
     ghost left = { source_left };
 
@@ -104,7 +104,7 @@ impl Sink for MemSink {
     ghost use Rattle.site_disk.specs.Plans.{FailsNext, counted_on};
     ghost use Rattle.site_disk.specs.MemStreams.{sink_taken, sink_faults, sink_plan, sink_room};
 
-    ghost tells = { true };
+    ghost is_modelled = { true };
 
     ghost taken = { sink_taken };
 

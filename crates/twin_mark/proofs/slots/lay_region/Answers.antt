@@ -1,5 +1,5 @@
-use Rattle.std.proofs.Common.{◌≡◌, ◌++◌, ℕ, List, take, drop, set, arith, ap, sym, ◌∙◌}
-use Rattle.std.specs.Prelude.{replicate, refl}
+use Rattle.std.proofs.Common.{◌≡◌, ◌++◌, ℕ, List, take, drop, set, ap, ◌∙◌}
+use Rattle.std.specs.Prelude.{replicate}
 use Rattle.twin_mark.specs.Marks.{formatted}
 use Rattle.twin_mark.proofs.slots.lay_region.Goals as goal
 

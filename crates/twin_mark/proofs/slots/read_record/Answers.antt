@@ -1,8 +1,7 @@
 use Rattle.std.proofs.Common.{◌≡◌, ℕ, List, length, take, arith, ap, sym, ◌∙◌}
-use Rattle.std.specs.Prelude.{Some}
 use Rattle.site_disk.specs.Bytes.{extent}
 use Rattle.site_disk.specs.BytesLaws.{read_range}
-use Rattle.twin_mark.specs.Marks.{current, record_of, record_at}
+use Rattle.twin_mark.specs.Marks.{current, record_of}
 use Rattle.twin_mark.specs.MarksLaws.{same_slots, same_record_of}
 use Rattle.twin_mark.proofs.slots.read_record.Goals as goal
 

@@ -17,7 +17,7 @@ pub returns-in_err-write_body-clause-crash : goal.returns-in_err-write_body-clau
 returns-in_err-write_body-clause-crash g c tells stands =
     let gate = c.args.gate in
     let place = c.args.place in
-    let piece = c.args.turn ∷ c.args.content.now in
+    let piece = c.args.sequence ∷ c.args.content.now in
     let e = c.args.era.now.number in
     let old = g.D.Disk.image c.args.disk.now in
     let mid = g.D.Disk.image c.close_gate.new.disk in
@@ -29,7 +29,7 @@ pub returns-clause-crash : goal.returns-clause-crash
 returns-clause-crash g c tells stands =
     let gate = c.args.gate in
     let place = c.args.place in
-    let piece = c.args.turn ∷ c.args.content.now in
+    let piece = c.args.sequence ∷ c.args.content.now in
     let e = c.args.era.now.number in
     let old = g.D.Disk.image c.args.disk.now in
     let mid = g.D.Disk.image c.close_gate.new.disk in

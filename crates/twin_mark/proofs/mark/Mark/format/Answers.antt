@@ -1,5 +1,8 @@
-use Rattle.std.proofs.Common.{◌+◌, arith}
-use Rattle.twin_mark.proofs.Storing.{agrees_after, knows_formatted, record_formatted, stored_formatted}
+use Rattle.std.proofs.Common.{arith}
+use Rattle.site_disk.specs.Seen.{seen}
+use Rattle.site_disk.specs.SeenLaws.{synced_after}
+use Rattle.twin_mark.specs.MarksLaws.{agrees_synced}
+use Rattle.twin_mark.proofs.Storing.{knows_formatted, record_formatted, stored_formatted}
 use Rattle.twin_mark.proofs.mark.Mark.format.Goals as goal
 
 pub returns-clause-stored : goal.returns-clause-stored
@@ -12,7 +15,7 @@ returns-clause-new_record g c = rw (← c.self.view_is) (λ tells.
 
 pub returns-clause-agrees : goal.returns-clause-agrees
 returns-clause-agrees g c tells =
-    agrees_after _ c.args.era.now.number (g.D.Disk.ledger c.write_region.new.disk).last (g.D.Disk.bytes c.write_region.new.disk) (g.D.Disk.image c.write_region.new.disk)
-    (λ f b lt image. g.met.D.Disk.now_counts c.write_region.new.disk (c.args.era.now.number + 1) f b (omega arith) lt image)
-    (c.in_ok-write_region.ensures.durable tells)
+    agrees_synced _ (seen g.D.Disk c.write_region.new.disk)
+    (synced_after (seen g.D.Disk c.write_region.new.disk) c.args.era.now.number (g.met.D.Disk.now_counts c.write_region.new.disk) (omega arith)
+    (c.in_ok-write_region.ensures.durable tells))
     (knows_formatted c.self.inside.base c.args.body.now (g.D.Disk.bytes c.args.disk.now) (g.D.Disk.bytes c.write_region.new.disk) (omega arith) (c.in_ok-write_region.ensures.bytes tells))

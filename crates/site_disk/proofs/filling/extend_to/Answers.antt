@@ -1,8 +1,8 @@
-use Rattle.std.proofs.Common.{◌≡◌, ◌-◌, ◌≤◌, ℕ, min, length, arith, subst, ◌∙◌}
+use Rattle.std.proofs.Common.{◌≡◌, ◌-◌, ℕ, min, length, arith, subst}
 use Rattle.site_disk.specs.Bytes.{Torn}
 use Rattle.site_disk.specs.CallsLaws.{from_unchanged}
 use Rattle.site_disk.specs.Images.{Leaves}
-use Rattle.site_disk.proofs.filling.reach.Goals as goal
+use Rattle.site_disk.proofs.filling.extend_to.Goals as goal
 
 pub returns-clause-crash : goal.returns-clause-crash
 returns-clause-crash g c tells =
