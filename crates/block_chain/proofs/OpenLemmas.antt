@@ -13,21 +13,10 @@ use Rattle.block_chain.specs.Layout.{IsChain, free_blocks, table_of, IsLaidOut}
 use Rattle.block_chain.specs.Placing.{link_of, is_hole, AreLinked, ArePlaced, KeepsLinks}
 use Rattle.block_chain.specs.declared.lists.BlockList.{BlockList}
 use Rattle.block_chain.specs.declared.runs.Run.{Run}
-use Rattle.block_chain.specs.BlocksLaws.{times-append, times_head, times-tail, times_above, times_within, ascending_once}
+use Rattle.block_chain.specs.BlocksLaws.{times-append, times_head, times-tail, times_above, times_within, ascending-append, ascending_once}
 use Rattle.block_chain.proofs.RunLemmas.{first_or}
 use Rattle.block_chain.proofs.PlaceLemmas.{linked_within, AreLinked-kept}
 use Rattle.block_chain.proofs.HoleLemmas.{times-filter, times-filter-passes, times-filter-fails}
-
-ascending-append : (first a b : ℕ) → ascending first (a + b) ≡ ascending first a ++ ascending (first + a) b
-unfolding ascending
-ascending-append first zero b =
-    let plain : 0 + b ≡ b = omega arith in
-    let at_first : first + 0 ≡ first = omega arith in
-    rw (plain, at_first) refl
-ascending-append first (suc a) b =
-    let plain : suc a + b ≡ suc (a + b) = omega arith in
-    let at_first : first + suc a ≡ suc first + a = omega arith in
-    rw (plain, at_first) (ap (λ (xs : List ℕ). first ∷ xs) (ascending-append (suc first) a b))
 
 -- a filter that every block passes from the first on
 filter_from : (p : ℕ → Bool) (first count : ℕ) → ((b : ℕ) → first ≤ b → p b ≡ true) → filter p (ascending first count) ≡ ascending first count

@@ -1,14 +1,16 @@
 -- The blocks of runs, and the lists that they are.
-use Rattle.std.proofs.Common.{◌≡◌, ◌≢◌, ℕ, zero, suc, ◌+◌, ◌-◌, ◌<◌, ◌≤◌, List, [], ◌∷◌, ◌++◌, length, get_or, take, drop, refl, sym, ap, ◌∙◌, subst, arith, length-append, append_assoc, add-one, add-zero}
+use Rattle.std.proofs.Common.{◌≡◌, ◌≢◌, ℕ, zero, suc, ◌+◌, ◌-◌, ◌^◌, ◌<◌, ◌≤◌, List, [], ◌∷◌, ◌++◌, length, get_or, take, drop, refl, sym, ap, ◌∙◌, subst, arith, length-append, append_assoc, add-one, add-zero}
 use Rattle.std.proofs.Math.Dec.{eqb-suc-zero}
 use Rattle.std.proofs.lemmas.List.{append-nil, take_more, take-append-drop, drop_more}
 use Rattle.std.proofs.lemmas.Grind.{flat_map-append}
-use Rattle.block_chain.specs.Blocks.{times, ascending, last_or, blocks_of_runs, AreApart, AreSound, AreMaximal}
+use Rattle.block_chain.specs.Blocks.{times, ascending, last_or, blocks_of_runs, AreApart, AreSound, AreMaximal, FitsRun}
 use Rattle.block_chain.specs.Table.{Table, chain, blocks_of, IsListOf, AreListed}
 use Rattle.block_chain.specs.Layout.{table_of, joined, run_list}
 use Rattle.block_chain.specs.declared.lists.BlockList.{BlockList}
 use Rattle.block_chain.specs.declared.runs.Run.{Run}
 use Rattle.block_chain.specs.BlocksLaws.{times-append, times_within, times_head, last_or-append, length-ascending, length_of_distinct}
+use Rattle.std.specs.List.{AllByRecursion}
+use Rattle.block_chain.specs.RunLaws.{sound_runs_fit}
 use Rattle.block_chain.proofs.ChainLemmas.{length-chain}
 use Rattle.block_chain.proofs.LayoutLemmas.{IsChain-list}
 
@@ -66,15 +68,7 @@ blocks_of_runs-take runs i d lt =
     let f : Run → List ℕ = λ run. ascending run.first run.count in
     ap blocks_of_runs (take_more runs i d lt) ∙ flat_map-append f (take i runs) (get_or runs i d ∷ []) ∙ ap (λ (xs : List ℕ). blocks_of_runs (take i runs) ++ xs) (append-nil (ascending (get_or runs i d).first (get_or runs i d).count))
 
--- a run of sound blocks ends within the number of blocks
-pub run_fits : (blocks first count : ℕ) (before behind : List ℕ) → AreSound blocks (before ++ (ascending first count ++ behind)) → 0 < count → first + count ≤ blocks
-run_fits blocks first zero before behind sound some = omega arith
-run_fits blocks first (suc n) before behind sound some =
-    let stands : times (first + n) (ascending first (suc n)) ≡ 1 = times_within (first + n) first (suc n) (omega arith) (omega arith) in
-    let below : first + n < blocks = sound.below (first + n) (omega (arith, stands, times-append (first + n) before (ascending first (suc n) ++ behind), times-append (first + n) (ascending first (suc n)) behind)) in
-    omega arith
-
--- and so does the number of the blocks so far
+-- the number of the blocks so far is within the number of blocks
 pub len_fits : (blocks first count : ℕ) (before behind : List ℕ) → AreSound blocks (before ++ (ascending first count ++ behind)) → length before + count ≤ blocks
 len_fits blocks first count before behind sound =
     omega (arith, length_of_distinct blocks (before ++ (ascending first count ++ behind)) sound.once sound.below, length-append before (ascending first count ++ behind), length-append (ascending first count) behind, length-ascending first count)
@@ -193,6 +187,14 @@ HasWalked-begun links all runs run block left x some e ne has = record {
   last = refl;
   maximal = AreMaximal-begun runs run (record { first = x; count = 1 }) (omega arith) ne has.maximal;
 }
+
+-- a walk that has come to the end has runs that fit
+pub HasWalked-fit : (blocks : ℕ) (links all : List ℕ) (runs : List Run) (run : Run) (block left : ℕ) → left ≡ 0 → blocks < 2 ^ 32 → AreSound blocks all
+    → HasWalked links all runs run block left → AllByRecursion FitsRun (runs ++ run ∷ [])
+HasWalked-fit blocks links all runs run block left none limit sound has =
+    let whole : blocks_of_runs (runs ++ run ∷ []) ≡ all =
+    sym (append-nil (blocks_of_runs (runs ++ run ∷ []))) ∙ subst (λ (n : ℕ). blocks_of_runs (runs ++ run ∷ []) ++ chain links (get_or links block 0) n ≡ all) none has.order in
+    sound_runs_fit blocks (runs ++ run ∷ []) limit (subst (AreSound blocks) (sym whole) sound) has.maximal
 
 -- the block that the walk has come to has a link
 pub walked_within : (blocks capacity : ℕ) (links : List ℕ) (holes returned : BlockList) (now : Table) (list : BlockList) → table_of blocks links holes returned ≡ now → IsListOf now list

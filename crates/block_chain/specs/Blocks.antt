@@ -1,6 +1,6 @@
 -- Lists of blocks: how often a block stands in one, blocks in ascending order, and the blocks of runs.
-use Rattle.std.specs.Prelude.{◌≡◌, ℕ, zero, suc, ◌+◌, ◌<◌, ◌≤◌, ◌≢◌, ◌==◌, ◌⊎◌, List, [], ◌∷◌, ◌++◌, if◌then◌else◌}
-use Rattle.std.specs.List.{flat_map}
+use Rattle.std.specs.Prelude.{◌≡◌, ℕ, zero, suc, ◌+◌, ◌/◌, ◌^◌, ◌<◌, ◌≤◌, ◌≢◌, ◌==◌, ◌⊎◌, List, [], ◌∷◌, ◌++◌, if◌then◌else◌, sum_by}
+use Rattle.std.specs.List.{AllByRecursion, flat_map}
 use Rattle.std.specs.declared.vec.Vec.{Vec}
 use Rattle.std.specs.declared.alloc.Global.{Global}
 use Rattle.block_chain.specs.declared.runs.Run.{Run}
@@ -59,3 +59,22 @@ BeginsElsewhere block (run ∷ runs) = run.first ≢ block
 abbrev pub AreMaximal : List Run → Type 0
 AreMaximal [] = Unit {0}
 AreMaximal (run ∷ runs) = (0 < run.count) × BeginsElsewhere (run.first + run.count) runs × AreMaximal runs
+
+-- a block's number and a count of blocks have 32 bits
+pub record FitsRun (run : Run) : Type 0 where
+  pub first : run.first < 2 ^ 32
+  pub count : run.count < 2 ^ 32
+
+-- the number of blocks of runs
+abbrev pub blocks_in : List Run → ℕ
+blocks_in runs = sum_by (λ run. run.count) runs
+
+-- the blocks of 4,096 bytes that so many bytes take
+abbrev pub blocks_for : ℕ → ℕ
+blocks_for size = (size + 4095) / 4096
+
+-- the runs of an object of this size: none is empty or begins where the one before it ends, and their blocks are as many as it takes
+pub record AreRunsOf (runs : List Run) (size : ℕ) : Type 0 where
+  pub fit : AllByRecursion FitsRun runs
+  pub maximal : AreMaximal runs
+  pub count : blocks_in runs ≡ blocks_for size

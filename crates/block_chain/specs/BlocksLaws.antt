@@ -115,6 +115,13 @@ ascending_once block first count =
 pub apart_cases : (xs ys : List ℕ) → AreApart xs ys → (b : ℕ) → (times b xs ≡ 0) ⊎ (times b ys ≡ 0)
 apart_cases xs ys apart b = ⊎_elim (λ (h : 0 < times b xs). inr (apart b h)) (λ (h : times b xs ≤ 0). inl (omega (arith, h))) (cases_lt 0 (times b xs))
 
+-- no block in common, the other way round
+pub apart_back : (xs ys : List ℕ) → AreApart xs ys → AreApart ys xs
+apart_back xs ys apart block some = ⊎_elim
+    (λ (both : 0 < times block xs). absurd (omega (arith, some, apart block both)))
+    (λ (none : times block xs ≤ 0). omega (arith, none))
+    (cases_lt 0 (times block xs))
+
 -- the one block of a list
 pub times_single : (block x : ℕ) → 0 < times block (x ∷ []) → x ≡ block
 times_single block x some = ⊎_elim (λ (e : x ≡ block). e) (λ (ne : x ≢ block). absurd (omega (arith, some, times_other block x [] ne))) (cases_eq x block)
@@ -122,6 +129,18 @@ times_single block x some = ⊎_elim (λ (e : x ≡ block). e) (λ (ne : x ≢ b
 pub times-single : (block x : ℕ) → times block (x ∷ []) ≤ 1
 unfolding ascending
 times-single block x = ascending_once block x 1
+
+-- blocks in ascending order, cut in two
+pub ascending-append : (first a b : ℕ) → ascending first (a + b) ≡ ascending first a ++ ascending (first + a) b
+unfolding ascending
+ascending-append first zero b =
+    let plain : 0 + b ≡ b = omega arith in
+    let at_first : first + 0 ≡ first = omega arith in
+    rw (plain, at_first) refl
+ascending-append first (suc a) b =
+    let plain : suc a + b ≡ suc (a + b) = omega arith in
+    let at_first : first + suc a ≡ suc first + a = omega arith in
+    rw (plain, at_first) (ap (λ (xs : List ℕ). first ∷ xs) (ascending-append (suc first) a b))
 
 -- blocks in ascending order, cut at one of them
 pub ascending-split : (first k n : ℕ) → ascending first (k + suc n) ≡ ascending first k ++ (first + k) ∷ ascending (suc (first + k)) n

@@ -6,13 +6,15 @@
 //! other list as it was. Only the making of a table and of a list's runs can run out of memory.
 #![tactic(auto)]
 
+mod laws;
 mod lists;
 mod placing;
 mod runs;
 mod table;
 
+pub use laws::{one_list_of_runs, runs_of_a_table_fit};
 pub use lists::BlockList;
-pub use runs::Run;
+pub use runs::{Run, blocks_for};
 pub use table::{ChainFault, Chains, OutOfMemory};
 
 #[cfg(test)]

@@ -1,6 +1,14 @@
 ghost use Rattle.std.specs.Prelude.{◌≡◌, ◌+◌, ◌<◌, ◌≤◌, ◌^◌, ◌↔◌, IsTrue};
+ghost use Rattle.block_chain.specs.Blocks.{blocks_for as blocks_for_bytes};
 
 use crate::lists::BlockList;
+
+/// The blocks of 4,096 bytes that so many bytes take.
+pub fn blocks_for(size: u64) -> u64
+    ensures { result ≡ blocks_for_bytes size }
+{
+    size.div_ceil(4096)
+}
 
 /// Neighbouring blocks: `count` of them from `first` on.
 #[derive(Clone, Copy, Debug, PartialEq, Eq)]

@@ -1,5 +1,6 @@
 ghost use Rattle.std.specs.Prelude.{◌≡◌, ◌<◌, ◌↔◌, [], ◌∷◌, ◌++◌, length, ◌==◌, ℕ, List, All, filter, IsNone, IfSome, IfNone, IfOk, OnOk, IsErrOf};
-ghost use Rattle.block_chain.specs.Blocks.{times, ascending, blocks_of_runs, blocks_of_lists, AreSound, ArePartition, AreMaximal, RefusesFirst};
+ghost use Rattle.block_chain.specs.Blocks.{times, ascending, blocks_of_runs, blocks_of_lists, AreSound, ArePartition, AreMaximal, RefusesFirst, FitsRun};
+ghost use Rattle.std.specs.List.{AllByRecursion};
 ghost use Rattle.block_chain.specs.Table.{blocks_of, IsListOf, AreListed, KeepsOthers, MovesFirst};
 
 use crate::lists::BlockList;
@@ -159,6 +160,7 @@ impl Chains {
     {
         self.returned.append(&mut self.next, list);
     }
+
     /// The list that has the blocks of these runs, in their order.
     pub fn list_of(&self, runs: &[Run]) -> BlockList
         requires listed { AreListed self.now (blocks_of_runs runs.now) }
@@ -181,6 +183,7 @@ impl Chains {
         requires own { IsListOf self.now list.now }
         ensures runs { IfOk result (λ runs. blocks_of_runs runs.items ≡ blocks_of self.now list.now) }
         ensures maximal { IfOk result (λ runs. AreMaximal runs.items) }
+        ensures fit { IfOk result (λ runs. AllByRecursion FitsRun runs.items) }
         ensures listed { IfOk result (λ runs. AreListed self.now (blocks_of_runs runs.items)) }
     {
         let mut runs = Vec::new(*self.next.allocator());

@@ -1,3 +1,3 @@
-pub mod Padding
-pub mod Fields
+pub mod TextLemmas
+pub mod SpellingLemmas
 mod Printing

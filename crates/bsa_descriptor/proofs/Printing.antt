@@ -1,5 +1,5 @@
 -- Printed characters are ASCII, so that a text is UTF-8.
-use Rattle.std.proofs.Common.{ℕ, List, ◌<◌, length, get_or, arith, inl, inr}
+use Rattle.std.proofs.Common.{ℕ, List, length, arith, inl, inr}
 use Rattle.std.specs.Str.{IsUtf8}
 use Rattle.std.proofs.lemmas.Bool.{cases_lt}
 use Rattle.std.proofs.lemmas.List.{get_or_past}

@@ -6,7 +6,8 @@ use Rattle.bsa_descriptor.specs.declared.kinds.CopyType.TheVariants as copy_type
 use Rattle.bsa_descriptor.specs.declared.kinds.ObjectType.TheVariants as object_type
 use Rattle.bsa_descriptor.specs.declared.kinds.ObjectStatus.TheVariants as status
 use Rattle.bsa_descriptor.specs.Kinds.{copy_type_code, object_type_code, status_code}
-use Rattle.bsa_descriptor.specs.Text.{IsText, padded}
+use Rattle.byte_fields.specs.Fields.{padded}
+use Rattle.bsa_descriptor.specs.Text.{IsText}
 
 -- empty texts, zeros, and `Any`
 abbrev pub empty_descriptor : Descriptor

@@ -1,23 +1,19 @@
--- Where the readers of this crate look for the fields, group by group. The layout is `spelling`; `proofs/Fields.antt` shows
+-- Where the readers of this crate look for the fields, group by group. The layout is `spelling`; `proofs/SpellingLemmas.antt` shows
 -- that its fields stand at these offsets, and that no other bytes have them there.
-use Rattle.std.specs.Prelude.{ℕ, ◌<◌, ◌^◌, ◌≡◌, List, [], ◌∷◌}
-use Rattle.std.specs.Int.{to_be_bytes, w64}
+use Rattle.std.specs.Prelude.{ℕ, ◌≡◌, List, [], ◌∷◌}
+use Rattle.std.specs.Int.{w64}
 use Rattle.bsa_descriptor.specs.declared.groups.Names.{Names}
 use Rattle.bsa_descriptor.specs.declared.groups.Numbers.{Numbers}
 use Rattle.bsa_descriptor.specs.declared.groups.Kinds.{Kinds}
 use Rattle.bsa_descriptor.specs.declared.groups.Notes.{Notes}
 use Rattle.bsa_descriptor.specs.Kinds.{copy_type_code, object_type_code, status_code}
-use Rattle.bsa_descriptor.specs.Text.{IsText, padded, field}
+use Rattle.byte_fields.specs.Fields.{field, padded, HasNumber}
+use Rattle.bsa_descriptor.specs.Text.{IsText}
 
 -- the field at this offset holds this text
-pub record TextAt (at width : ℕ) (bytes text : List ℕ) : Type 0 where
+pub record TextAt (offset width : ℕ) (bytes text : List ℕ) : Type 0 where
   pub is_text : IsText width text
-  pub padded_so : field at width bytes ≡ padded width text
-
--- the eight bytes at this offset hold this number
-pub record NumberAt (at : ℕ) (bytes : List ℕ) (number : ℕ) : Type 0 where
-  pub fits : number < 2 ^ 64
-  pub written_so : field at 8 bytes ≡ to_be_bytes w64 number
+  pub stands : field offset width bytes ≡ padded width text
 
 -- the owners and the name, in bytes 0 to 2,175
 pub record NamesAt (bytes : List ℕ) (names : Names) : Type 0 where
@@ -28,10 +24,10 @@ pub record NamesAt (bytes : List ℕ) (names : Names) : Type 0 where
 
 -- the numbers, in bytes 2,176 to 2,207
 pub record NumbersAt (bytes : List ℕ) (numbers : Numbers) : Type 0 where
-  pub create_time : NumberAt 2176 bytes numbers.create_time
-  pub copy : NumberAt 2184 bytes numbers.copy
-  pub restore_order : NumberAt 2192 bytes numbers.restore_order
-  pub estimated_size : NumberAt 2200 bytes numbers.estimated_size
+  pub create_time : HasNumber w64 2176 bytes numbers.create_time
+  pub copy : HasNumber w64 2184 bytes numbers.copy
+  pub restore_order : HasNumber w64 2192 bytes numbers.restore_order
+  pub estimated_size : HasNumber w64 2200 bytes numbers.estimated_size
 
 -- the kinds, in bytes 2,208 to 2,210
 pub record KindsAt (bytes : List ℕ) (kinds : Kinds) : Type 0 where

@@ -3,10 +3,10 @@ ghost use Rattle.std.specs.Prelude.{◌≡◌, [], IfSome, Some};
 ghost use Rattle.bsa_descriptor.specs.declared.descriptor.Descriptor.{Descriptor};
 ghost use Rattle.bsa_descriptor.specs.Descriptor.{IsDescriptor, empty_descriptor, spelling};
 
+use crate::fields::{write_number, write_text};
 use crate::groups::{kinds_of, names_of, notes_of, numbers_of};
-use crate::reading::is_zero_from;
-use crate::writing::{write_bytes, write_number, write_text, write_zeros};
 use crate::{CopyType, ObjectStatus, ObjectType, Text};
+use byte_fields::{is_zero_from, write_bytes, write_zeros};
 
 /// What is known of a backup object, and what a query asks for.
 #[derive(Clone, Debug, Drop, PartialEq, Eq)]

@@ -6,8 +6,9 @@ ghost use Rattle.bsa_descriptor.specs.declared.groups.Kinds.{Kinds};
 ghost use Rattle.bsa_descriptor.specs.declared.groups.Notes.{Notes};
 ghost use Rattle.bsa_descriptor.specs.Groups.{NamesAt, NumbersAt, KindsAt, NotesAt};
 
-use crate::reading::{byte_at, number_at, text_at};
+use crate::fields::text_at;
 use crate::{CopyType, ObjectStatus, ObjectType, Text};
+use byte_fields::{byte_at, u64_at};
 
 #[derive(Drop)]
 pub(crate) struct Names {
@@ -58,10 +59,10 @@ pub(crate) fn numbers_of(bytes: &[u8]) -> Numbers
     ensures only { (numbers : Numbers) → NumbersAt bytes.now numbers → result ≡ numbers }
 {
     Numbers {
-        create_time: number_at(bytes, 2176),
-        copy: number_at(bytes, 2184),
-        restore_order: number_at(bytes, 2192),
-        estimated_size: number_at(bytes, 2200),
+        create_time: u64_at(bytes, 2176),
+        copy: u64_at(bytes, 2184),
+        restore_order: u64_at(bytes, 2192),
+        estimated_size: u64_at(bytes, 2200),
     }
 }
 

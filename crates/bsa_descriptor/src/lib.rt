@@ -6,13 +6,12 @@
 #![tactic(auto)]
 
 mod descriptor;
+mod fields;
 mod groups;
 mod kinds;
-mod reading;
 #[cfg(test)]
 mod tests;
 mod text;
-mod writing;
 
 pub use descriptor::Descriptor;
 pub use kinds::{CopyType, ObjectStatus, ObjectType};

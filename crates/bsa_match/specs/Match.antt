@@ -45,10 +45,10 @@ is_status_match _ _ = false
 -- the query finds the object; its four numbers ask for nothing
 abbrev pub is_match : Descriptor → Descriptor → Bool
 is_match query object =
-    is_wild_match query.space object.space && is_wild_match query.path object.path
+    is_copy_type_match query.copy_type object.copy_type && is_object_type_match query.object_type object.object_type && is_status_match query.status object.status
     && is_text_match query.bsa_owner object.bsa_owner && is_text_match query.app_owner object.app_owner
     && is_text_match query.resource object.resource && is_text_match query.description object.description && is_text_match query.info object.info
-    && is_copy_type_match query.copy_type object.copy_type && is_object_type_match query.object_type object.object_type && is_status_match query.status object.status
+    && is_wild_match query.space object.space && is_wild_match query.path object.path
 
 -- both owners, the space, the path and the copy type are the same
 abbrev pub is_same_name : Descriptor → Descriptor → Bool

@@ -37,16 +37,16 @@ fn status_matches(asked: ObjectStatus, status: ObjectStatus) -> bool
 pub fn matches(query: &Descriptor, object: &Descriptor) -> bool
     ensures { result ≡ is_match query.now object.now }
 {
-    wild(query.space.as_bytes(), object.space.as_bytes())
-        && wild(query.path.as_bytes(), object.path.as_bytes())
+    copy_type_matches(query.copy_type, object.copy_type)
+        && object_type_matches(query.object_type, object.object_type)
+        && status_matches(query.status, object.status)
         && text_matches(query.bsa_owner.as_bytes(), object.bsa_owner.as_bytes())
         && text_matches(query.app_owner.as_bytes(), object.app_owner.as_bytes())
         && text_matches(query.resource.as_bytes(), object.resource.as_bytes())
         && text_matches(query.description.as_bytes(), object.description.as_bytes())
         && text_matches(query.info.as_bytes(), object.info.as_bytes())
-        && copy_type_matches(query.copy_type, object.copy_type)
-        && object_type_matches(query.object_type, object.object_type)
-        && status_matches(query.status, object.status)
+        && wild(query.space.as_bytes(), object.space.as_bytes())
+        && wild(query.path.as_bytes(), object.path.as_bytes())
 }
 
 /// Whether both have one name: the same owners, object space, path and copy type.

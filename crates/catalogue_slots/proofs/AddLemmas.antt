@@ -5,18 +5,19 @@ use Rattle.std.proofs.lemmas.List.{take_all, length-drop, length-take-le}
 use Rattle.std.proofs.Math.Seq.{take-add}
 use Rattle.block_chain.specs.declared.runs.Run.{Run}
 use Rattle.bsa_descriptor.specs.Descriptor.{spelling as descriptor_bytes}
-use Rattle.bsa_descriptor.specs.Text.{field}
+use Rattle.byte_fields.specs.Fields.{field, HasNumber}
+use Rattle.byte_fields.proofs.FieldLemmas.{last_field}
 use Rattle.bsa_descriptor.specs.declared.descriptor.Descriptor.{Descriptor}
-use Rattle.bsa_descriptor.proofs.Fields.{last_field, length-spelling}
+use Rattle.bsa_descriptor.proofs.SpellingLemmas.{length-spelling}
 use Rattle.catalogue_slots.specs.Records.{Object, Record, add, more, del, base, IsCopy, IsAdd}
 use Rattle.catalogue_slots.specs.Layout.{Front, runs_in_place, add_bytes}
-use Rattle.catalogue_slots.specs.Parts.{Holds, HoldsNumber, HoldsDescriptor, HoldsRuns}
+use Rattle.catalogue_slots.specs.Parts.{Holds, HoldsDescriptor, HoldsRuns}
 use Rattle.catalogue_slots.specs.RunLaws.{length-runs_in_place}
 use Rattle.catalogue_slots.proofs.KindLemmas.{place_of_runs, runs_of_place, same_fronts}
 
 -- the parts of an Add, behind its front
 pub record HasParts (own : List ℕ) (copy here : ℕ) (object : Object) : Type 0 where
-  pub size : HoldsNumber 0 own object.size
+  pub size : HasNumber w64 0 own object.size
   pub digest : field 8 32 own ≡ object.digest
   pub descriptor : HoldsDescriptor copy (field 40 2624 own) object.descriptor
   pub runs : HoldsRuns (drop 2664 own) here object.runs

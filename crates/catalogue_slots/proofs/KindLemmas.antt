@@ -2,9 +2,8 @@
 use Rattle.std.proofs.Common.{◌≡◌, ℕ, ◌-◌, ◌*◌, ◌≤◌, List, ◌++◌, length, take, drop, replicate, All, refl, sym, ap, ◌∙◌, subst, arith}
 use Rattle.std.specs.List.{flat_map}
 use Rattle.std.proofs.lemmas.List.{take-append-drop, take_at, drop_at, length-drop}
-use Rattle.std.proofs.lemmas.List.Elements.{All-same, All-replicate}
 use Rattle.block_chain.specs.declared.runs.Run.{Run}
-use Rattle.bsa_descriptor.proofs.Padding.{zeros_are_replicated}
+use Rattle.byte_fields.proofs.FieldLemmas.{replicate-zeros, zeros-replicate}
 use Rattle.catalogue_slots.specs.Records.{Record, add, more, del, base, IsCopy, IsMore, AreRuns}
 use Rattle.catalogue_slots.specs.Layout.{Front, no_bytes, run_bytes, runs_in_place}
 use Rattle.catalogue_slots.specs.Parts.{Holds, HasCopyAlone, HoldsRuns}
@@ -12,11 +11,11 @@ use Rattle.catalogue_slots.specs.RunLaws.{length-runs}
 
 pub zeros_no_bytes : (bytes : List ℕ) → length bytes ≡ 4080 → All (λ byte. byte ≡ 0) bytes → bytes ≡ no_bytes
 unfolding no_bytes
-zeros_no_bytes bytes fills zeros = zeros_are_replicated bytes zeros ∙ ap (λ (n : ℕ). replicate {A = ℕ} n 0) fills
+zeros_no_bytes = replicate-zeros 4080
 
 pub no_bytes_zeros : (bytes : List ℕ) → bytes ≡ no_bytes → All (λ byte. byte ≡ 0) bytes
 unfolding no_bytes
-no_bytes_zeros bytes e = All-same (λ byte. byte ≡ 0) bytes (replicate {A = ℕ} 4080 0) e (All-replicate (λ byte. byte ≡ 0) 4080 0 refl)
+no_bytes_zeros = zeros-replicate 4080
 
 pub one_del : (front : Front) (own : List ℕ) (entry : Record) → front.kind ≡ 3 → Holds front own entry → HasCopyAlone front own × (del front.copy ≡ entry)
 one_del front own (del copy) kind holds =
@@ -54,7 +53,7 @@ unfolding runs_in_place
 place_of_runs room count place runs long holds =
     let behind : length (drop (8 * count) place) ≡ 8 * (room - length runs) = omega (arith, length-drop (8 * count) place, long, holds.begins.so_many) in
     sym (take-append-drop (8 * count) place) ∙ ap (λ (l : List ℕ). l ++ drop (8 * count) place) holds.begins.stands
-    ∙ ap (λ (l : List ℕ). flat_map run_bytes runs ++ l) (zeros_are_replicated (drop (8 * count) place) holds.zeros ∙ ap (λ (n : ℕ). replicate {A = ℕ} n 0) behind)
+    ∙ ap (λ (l : List ℕ). flat_map run_bytes runs ++ l) (replicate-zeros (8 * (room - length runs)) (drop (8 * count) place) behind holds.zeros)
 
 pub runs_of_place : (room : ℕ) (place : List ℕ) (runs : List Run) → AreRuns runs → place ≡ runs_in_place room runs → HoldsRuns place (length runs) runs
 unfolding runs_in_place
@@ -65,9 +64,8 @@ runs_of_place room place runs are e =
         are_runs = are;
         stands = ap (take (8 * length runs)) e ∙ take_at (flat_map run_bytes runs) zeros (8 * length runs) (length-runs runs);
       };
-      zeros = All-same (λ byte. byte ≡ 0) (drop (8 * length runs) place) zeros
-          (ap (drop (8 * length runs)) e ∙ drop_at (flat_map run_bytes runs) zeros (8 * length runs) (length-runs runs))
-          (All-replicate (λ byte. byte ≡ 0) (8 * (room - length runs)) 0 refl);
+      zeros = zeros-replicate (8 * (room - length runs)) (drop (8 * length runs) place)
+          (ap (drop (8 * length runs)) e ∙ drop_at (flat_map run_bytes runs) zeros (8 * length runs) (length-runs runs));
     }
 
 abbrev front_with : ℕ → ℕ → ℕ → ℕ → Front

@@ -1,11 +1,11 @@
 -- No two records are spelled alike.
-use Rattle.std.proofs.Common.{◌≡◌, ℕ, ◌^◌, ◌<◌, min, List, length, take, drop, get_or, refl, sym, ap, ◌∙◌}
-use Rattle.std.specs.Int.{to_be_bytes, from_be_bytes, w16, w32, w64}
-use Rattle.std.proofs.lemmas.Nat.{from_be_bytes-to_be_bytes_2, from_be_bytes-to_be_bytes_4, from_be_bytes-to_be_bytes_8}
-use Rattle.bsa_descriptor.proofs.Fields.{spelling_once, length-spelling as length-descriptor_bytes}
+use Rattle.std.proofs.Common.{◌≡◌, ℕ, min, List, length, take, drop, get_or, refl, sym, ap, ◌∙◌, arith}
+use Rattle.std.specs.Int.{to_be_bytes, w16, w32, w64}
+use Rattle.byte_fields.proofs.FieldLemmas.{same_number, one_number}
+use Rattle.bsa_descriptor.proofs.SpellingLemmas.{spelling_once, length-spelling as length-descriptor_bytes}
 use Rattle.catalogue_slots.specs.Records.{Object, Record, add, more, del, base, IsRecord}
 use Rattle.catalogue_slots.specs.Layout.{Front, FrontFits, front_of, front_bytes, own_bytes, spelling}
-use Rattle.catalogue_slots.specs.Parts.{Holds, HoldsNumber, HoldsRuns}
+use Rattle.catalogue_slots.specs.Parts.{Holds, HoldsRuns}
 use Rattle.catalogue_slots.specs.SlotLaws.{length-own_bytes}
 use Rattle.catalogue_slots.proofs.RunLemmas.{BeginsWithRuns-once}
 use Rattle.catalogue_slots.proofs.KindLemmas.{same_fronts, one_del, one_base, HasMore, one_more, runs_of_place}
@@ -29,31 +29,19 @@ module _ (front : Front) where
   unfolding front_bytes
   copy-front_bytes = refl
 
-number_once2 : (m n : ℕ) → m < 2 ^ 16 → n < 2 ^ 16 → to_be_bytes w16 m ≡ to_be_bytes w16 n → m ≡ n
-number_once2 m n m_fits n_fits e = sym (from_be_bytes-to_be_bytes_2 m m_fits) ∙ ap (from_be_bytes w16) e ∙ from_be_bytes-to_be_bytes_2 n n_fits
-
-number_once4 : (m n : ℕ) → m < 2 ^ 32 → n < 2 ^ 32 → to_be_bytes w32 m ≡ to_be_bytes w32 n → m ≡ n
-number_once4 m n m_fits n_fits e = sym (from_be_bytes-to_be_bytes_4 m m_fits) ∙ ap (from_be_bytes w32) e ∙ from_be_bytes-to_be_bytes_4 n n_fits
-
-number_once8 : (m n : ℕ) → m < 2 ^ 64 → n < 2 ^ 64 → to_be_bytes w64 m ≡ to_be_bytes w64 n → m ≡ n
-number_once8 m n m_fits n_fits e = sym (from_be_bytes-to_be_bytes_8 m m_fits) ∙ ap (from_be_bytes w64) e ∙ from_be_bytes-to_be_bytes_8 n n_fits
-
 front_once : (a b : Front) → FrontFits a → FrontFits b → front_bytes a ≡ front_bytes b → a ≡ b
 front_once a b is_a is_b e =
     same_fronts a b
     (sym (kind-front_bytes a) ∙ ap (λ (l : List ℕ). get_or l 0 0) e ∙ kind-front_bytes b)
-    (number_once2 a.word b.word is_a.word is_b.word (sym (word-front_bytes a) ∙ ap (λ (l : List ℕ). take 2 (drop 2 l)) e ∙ word-front_bytes b))
-    (number_once4 a.double b.double is_a.double is_b.double (sym (double-front_bytes a) ∙ ap (λ (l : List ℕ). take 4 (drop 4 l)) e ∙ double-front_bytes b))
-    (number_once8 a.copy b.copy is_a.copy is_b.copy (sym (copy-front_bytes a) ∙ ap (λ (l : List ℕ). take 8 (drop 8 l)) e ∙ copy-front_bytes b))
-
-number_at_once : (at : ℕ) (bytes : List ℕ) (m n : ℕ) → HoldsNumber at bytes m → HoldsNumber at bytes n → m ≡ n
-number_at_once at bytes m n first second = number_once8 m n first.fits second.fits (sym first.stands ∙ second.stands)
+    (same_number w16 a.word b.word (omega arith) is_a.word is_b.word (sym (word-front_bytes a) ∙ ap (λ (l : List ℕ). take 2 (drop 2 l)) e ∙ word-front_bytes b))
+    (same_number w32 a.double b.double (omega arith) is_a.double is_b.double (sym (double-front_bytes a) ∙ ap (λ (l : List ℕ). take 4 (drop 4 l)) e ∙ double-front_bytes b))
+    (same_number w64 a.copy b.copy (omega arith) is_a.copy is_b.copy (sym (copy-front_bytes a) ∙ ap (λ (l : List ℕ). take 8 (drop 8 l)) e ∙ copy-front_bytes b))
 
 -- two objects with the same bytes are one
 object_once : (own : List ℕ) (copy here : ℕ) (a b : Object) → a.copy ≡ b.copy → a.volume ≡ b.volume → HasParts own copy here a → HasParts own copy here b → a ≡ b
 object_once own copy here a b copies volumes first second =
     let long : length (take 2624 (drop 40 own)) ≡ 2624 = ap length first.descriptor.stands ∙ length-descriptor_bytes a.descriptor first.descriptor.is_descriptor in
-    same_objects a b copies volumes (number_at_once 0 own a.size b.size first.size second.size) (sym first.digest ∙ second.digest)
+    same_objects a b copies volumes (one_number w64 0 own a.size b.size (omega arith) first.size second.size) (sym first.digest ∙ second.digest)
     (BeginsWithRuns-once (drop 2664 own) here a.runs b.runs first.runs.begins second.runs.begins)
     (spelling_once (take 2624 (drop 40 own)) b.descriptor a.descriptor long second.descriptor.is_descriptor first.descriptor.is_descriptor second.descriptor.stands first.descriptor.stands)
 

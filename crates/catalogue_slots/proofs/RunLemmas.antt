@@ -3,11 +3,10 @@ use Rattle.std.proofs.Common.{◌≡◌, ◌≢◌, ℕ, ◌+◌, ◌*◌, ◌^�
 use Rattle.std.specs.List.{AllByRecursion, flat_map}
 use Rattle.std.proofs.lemmas.List.{flat_map_more, length-append, take-take, length-take-le}
 use Rattle.std.proofs.Math.Seq.{take-add}
-use Rattle.block_chain.specs.Blocks.{AreMaximal}
+use Rattle.block_chain.specs.Blocks.{AreMaximal, FitsRun}
 use Rattle.block_chain.proofs.RunLemmas.{AreMaximal-begun}
 use Rattle.block_chain.specs.declared.runs.Run.{Run}
-use Rattle.bsa_descriptor.specs.Text.{field}
-use Rattle.catalogue_slots.specs.Records.{FitsRun}
+use Rattle.byte_fields.specs.Fields.{field}
 use Rattle.catalogue_slots.specs.Layout.{run_bytes}
 use Rattle.catalogue_slots.specs.Parts.{BeginsWithRuns}
 use Rattle.catalogue_slots.specs.RunLaws.{same_runs, flat_map-take, fit-take, maximal-take}

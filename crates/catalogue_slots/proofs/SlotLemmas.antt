@@ -52,13 +52,7 @@ pub if_ok_some : {X E : Type 0} {P Q : X → Type 0} (read : Result (Option X) E
 if_ok_some {P = P} {Q = Q} (Ok r) means is = if_some {P = P} {Q = Q} r means is
 if_ok_some (Err e) means is = is
 
--- one piece written behind another
-pub written_behind : (a m n k : ℕ) (old mid new p q : List ℕ) → take (a + m) mid ≡ take a old ++ p → take (a + m + n) new ≡ take (a + m) mid ++ q → k ≡ m + n
-    → take (a + k) new ≡ take a old ++ (p ++ q)
-written_behind a m n k old mid new p q first second sum =
-    let place : a + k ≡ a + m + n = omega arith in
-    ap (λ (n : ℕ). take n new) place ∙ second ∙ ap (λ (l : List ℕ). l ++ q) first ∙ append_assoc (take a old) p q
-
+-- the parts of an Add, written one behind another
 pub written_parts : (a : ℕ) (old w1 w2 w3 w4 new p size digest descriptor runs : List ℕ) → length size ≡ 8 → length digest ≡ 32
     → take (a + 16) w1 ≡ take a old ++ p → take (a + 16 + length size) w2 ≡ take (a + 16) w1 ++ size
     → take (a + 24 + length digest) w3 ≡ take (a + 24) w2 ++ digest → take (a + 56 + 2624) w4 ≡ take (a + 56) w3 ++ descriptor

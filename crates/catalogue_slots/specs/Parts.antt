@@ -1,10 +1,8 @@
 -- Where the readers of this crate look for the parts of a slot.
-use Rattle.std.specs.Prelude.{◌≡◌, ℕ, ◌*◌, ◌^◌, ◌<◌, List, length, take, drop, All}
+use Rattle.std.specs.Prelude.{◌≡◌, ℕ, ◌*◌, List, length, take, drop, All}
 use Rattle.std.specs.List.{flat_map}
-use Rattle.std.specs.Int.{w64, to_be_bytes}
 use Rattle.block_chain.specs.declared.runs.Run.{Run}
 use Rattle.bsa_descriptor.specs.Descriptor.{IsDescriptor, spelling as descriptor_bytes}
-use Rattle.bsa_descriptor.specs.Text.{field}
 use Rattle.bsa_descriptor.specs.declared.descriptor.Descriptor.{Descriptor}
 use Rattle.bsa_descriptor.specs.declared.kinds.ObjectStatus.TheVariants as status
 use Rattle.catalogue_slots.specs.Records.{Record, AreRuns, IsCopy, IsRecord}
@@ -20,11 +18,6 @@ pub record BeginsWithRuns (bytes : List ℕ) (count : ℕ) (runs : List Run) : T
 pub record HoldsRuns (bytes : List ℕ) (count : ℕ) (runs : List Run) : Type 0 where
   pub begins : BeginsWithRuns bytes count runs
   pub zeros : All (λ byte. byte ≡ 0) (drop (8 * count) bytes)
-
--- a number stands at this place in eight bytes
-pub record HoldsNumber (at : ℕ) (bytes : List ℕ) (number : ℕ) : Type 0 where
-  pub fits : number < 2 ^ 64
-  pub stands : field at 8 bytes ≡ to_be_bytes w64 number
 
 -- the bytes are those of the descriptor of an object with this copy id, and of no status
 pub record HoldsDescriptor (copy : ℕ) (bytes : List ℕ) (d : Descriptor) : Type 0 where

@@ -1,7 +1,7 @@
 -- The records of the catalogue's journal.
 use Rattle.std.specs.Prelude.{◌≡◌, ℕ, zero, suc, ◌+◌, ◌-◌, ◌/◌, ◌^◌, ◌<◌, ◌≤◌, min, List, [], ◌∷◌, length, take, drop}
 use Rattle.std.specs.List.{AllByRecursion}
-use Rattle.block_chain.specs.Blocks.{AreMaximal}
+use Rattle.block_chain.specs.Blocks.{FitsRun, AreMaximal}
 use Rattle.block_chain.specs.declared.runs.Run.{Run}
 use Rattle.bsa_descriptor.specs.Descriptor.{IsDescriptor}
 use Rattle.bsa_descriptor.specs.declared.descriptor.Descriptor.{Descriptor}
@@ -23,11 +23,6 @@ pub data Record : Type 0 where
   more : (copy : ℕ) (runs : List Run) → Record
   del : (copy : ℕ) → Record
   base : (last : ℕ) → Record
-
--- a block's number and a count of blocks have 32 bits
-pub record FitsRun (run : Run) : Type 0 where
-  pub first : run.first < 2 ^ 32
-  pub count : run.count < 2 ^ 32
 
 -- runs that a slot may hold: none is empty or begins where the one before it ends
 pub record AreRuns (runs : List Run) : Type 0 where

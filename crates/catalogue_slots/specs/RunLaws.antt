@@ -1,14 +1,13 @@
 -- Laws of runs in slots.
-use Rattle.std.specs.Prelude.{◌≡◌, ℕ, ◌-◌, ◌*◌, ◌^◌, ◌<◌, ◌≤◌, List, [], ◌∷◌, ◌++◌, length, take, drop, replicate, zero, suc, refl}
+use Rattle.std.specs.Prelude.{◌≡◌, ℕ, ◌-◌, ◌*◌, ◌≤◌, List, [], ◌∷◌, ◌++◌, length, take, drop, replicate, zero, suc, refl}
 use Rattle.std.specs.List.{AllByRecursion, flat_map}
-use Rattle.std.specs.Int.{to_be_bytes, from_be_bytes, w32}
+use Rattle.std.specs.Int.{to_be_bytes, w32}
 use Rattle.std.proofs.Common.{sym, ap, ◌∙◌, arith}
 use Rattle.std.proofs.lemmas.List.{length-append, length-replicate, take_at, drop_at, take-append-drop, length-take-le}
 use Rattle.std.proofs.lemmas.List.Concat.{flat_map-append}
-use Rattle.std.proofs.lemmas.Nat.{from_be_bytes-to_be_bytes_4}
-use Rattle.block_chain.specs.Blocks.{AreMaximal}
+use Rattle.byte_fields.proofs.FieldLemmas.{same_number}
+use Rattle.block_chain.specs.Blocks.{AreMaximal, FitsRun}
 use Rattle.block_chain.specs.declared.runs.Run.{Run}
-use Rattle.catalogue_slots.specs.Records.{FitsRun}
 use Rattle.catalogue_slots.specs.Layout.{run_bytes, runs_in_place}
 
 pub length-run_bytes : (run : Run) → length (run_bytes run) ≡ 8
@@ -23,17 +22,14 @@ drop-run_bytes : (run : Run) → drop 4 (run_bytes run) ≡ to_be_bytes w32 run.
 unfolding run_bytes
 drop-run_bytes run = refl
 
-same_number : (m n : ℕ) → m < 2 ^ 32 → n < 2 ^ 32 → to_be_bytes w32 m ≡ to_be_bytes w32 n → m ≡ n
-same_number m n m_fits n_fits e = sym (from_be_bytes-to_be_bytes_4 m m_fits) ∙ ap (from_be_bytes w32) e ∙ from_be_bytes-to_be_bytes_4 n n_fits
-
 abbrev run_with : ℕ → ℕ → Run
 run_with first count = record { first = first; count = count }
 
 -- the bytes of a run are no other's
 pub same_run : (a b : Run) → FitsRun a → FitsRun b → run_bytes a ≡ run_bytes b → a ≡ b
 same_run a b is_a is_b e =
-    let firsts : a.first ≡ b.first = same_number a.first b.first is_a.first is_b.first (sym (take-run_bytes a) ∙ ap (take 4) e ∙ take-run_bytes b) in
-    let counts : a.count ≡ b.count = same_number a.count b.count is_a.count is_b.count (sym (drop-run_bytes a) ∙ ap (drop 4) e ∙ drop-run_bytes b) in
+    let firsts : a.first ≡ b.first = same_number w32 a.first b.first (omega arith) is_a.first is_b.first (sym (take-run_bytes a) ∙ ap (take 4) e ∙ take-run_bytes b) in
+    let counts : a.count ≡ b.count = same_number w32 a.count b.count (omega arith) is_a.count is_b.count (sym (drop-run_bytes a) ∙ ap (drop 4) e ∙ drop-run_bytes b) in
     ap (λ (n : ℕ). run_with n a.count) firsts ∙ ap (λ (n : ℕ). run_with b.first n) counts
 
 pub length-runs : (runs : List Run) → length (flat_map run_bytes runs) ≡ 8 * length runs

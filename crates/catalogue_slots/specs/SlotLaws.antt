@@ -4,11 +4,11 @@ use Rattle.std.specs.List.{AllByRecursion, flat_map}
 use Rattle.std.specs.Int.{to_be_bytes, w64}
 use Rattle.std.proofs.Common.{ap, ◌∙◌, arith}
 use Rattle.std.proofs.lemmas.List.{length-append, length-replicate, length-take, length-drop}
-use Rattle.block_chain.specs.Blocks.{AreMaximal}
+use Rattle.block_chain.specs.Blocks.{AreMaximal, FitsRun}
 use Rattle.block_chain.specs.declared.runs.Run.{Run}
 use Rattle.bsa_descriptor.specs.Descriptor.{spelling as descriptor_bytes}
-use Rattle.bsa_descriptor.proofs.Fields.{length-spelling as length-descriptor_bytes}
-use Rattle.catalogue_slots.specs.Records.{Object, Record, add, more, del, base, FitsRun, AreRuns, IsAdd, IsRecord, IsObject, slots_for, mores, records_of}
+use Rattle.bsa_descriptor.proofs.SpellingLemmas.{length-spelling as length-descriptor_bytes}
+use Rattle.catalogue_slots.specs.Records.{Object, Record, add, more, del, base, AreRuns, IsAdd, IsRecord, IsObject, slots_for, mores, records_of}
 use Rattle.catalogue_slots.specs.Layout.{Front, front_of, front_bytes, runs_in_place, add_bytes, no_bytes, own_bytes, spelling}
 use Rattle.catalogue_slots.specs.RunLaws.{length-runs_in_place, fit-take, maximal-take}
 

@@ -1,10 +1,10 @@
 -- The program's entries and slots as the definitions have them.
 use Rattle.catalogue_slots.specs.Records.{Object, Record, add, more, del, base}
-use Rattle.catalogue_slots.specs.declared.entry.Entry.{Entry}
+use Rattle.catalogue_slots.specs.declared.entry.ObjectEntry.{ObjectEntry}
 use Rattle.catalogue_slots.specs.declared.slot.Slot.{Slot}
 use Rattle.catalogue_slots.specs.declared.slot.Slot.TheVariants.{Add, More, Del, Base}
 
-abbrev pub object_of : Entry → Object
+abbrev pub object_of : ObjectEntry → Object
 object_of entry = record {
   copy = entry.copy;
   volume = entry.volume;

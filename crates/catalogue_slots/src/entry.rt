@@ -4,7 +4,7 @@ use bsa_descriptor::Descriptor;
 
 /// An object that the catalogue has.
 #[derive(Debug, Drop)]
-pub struct Entry {
+pub struct ObjectEntry {
     /// Its number, which no other object has or had.
     pub copy: u64,
     /// The volume that has its blocks, at most 16.

@@ -1,9 +1,9 @@
 //! The first 16 bytes of a slot.
-ghost use Rattle.std.specs.Prelude.{◌≡◌, ◌+◌, ◌≤◌, ◌++◌, length, take, IfSome, IsSomeAnd};
+ghost use Rattle.std.specs.Prelude.{◌≡◌, ◌+◌, ◌≤◌, ◌++◌, length, take, drop, IfSome, IsSomeAnd};
 ghost use Rattle.catalogue_slots.specs.Layout.{Front as FrontView, FrontFits, front_bytes};
 ghost use Rattle.catalogue_slots.specs.Fronts.{front_in};
 
-use crate::fields::write_bytes;
+use byte_fields::write_bytes;
 
 /// The kind of record, two numbers, of which each kind has its own use, and a copy id.
 #[derive(Clone, Copy)]
@@ -29,7 +29,8 @@ fn bytes_of(front: Front) -> [u8; 16]
 /// Writes the front at this offset, 16 bytes.
 pub(crate) fn write_front(into: &mut [u8], at: usize, front: Front)
     requires { at + 16 ≤ length into.old }
-    ensures { take (at + 16) into.new ≡ take at into.old ++ front_bytes (front_in front) }
+    ensures written { take (at + 16) into.new ≡ take at into.old ++ front_bytes (front_in front) }
+    ensures behind { drop (at + 16) into.new ≡ drop (at + 16) into.old }
 {
     write_bytes(into, at, &bytes_of(front));
 }

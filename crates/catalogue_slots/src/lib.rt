@@ -5,7 +5,6 @@
 #![tactic(auto)]
 
 mod entry;
-mod fields;
 mod front;
 mod laws;
 mod reading;
@@ -13,7 +12,7 @@ mod runs;
 mod slot;
 mod writing;
 
-pub use entry::Entry;
+pub use entry::ObjectEntry;
 pub use laws::{an_object_has_its_records, one_record};
 pub use slot::{SLOT_LEN, Slot};
 pub use writing::{slots_for, write_del, write_entry};

@@ -1,17 +1,17 @@
 //! The records in slots, kind by kind: what stands behind the first 16 bytes.
-ghost use Rattle.std.specs.Prelude.{◌≡◌, ◌+◌, ◌≤◌, ◌↔◌, ℕ, length, Some, IsTrue, IsSomeAnd, IfSome, IfOk};
+ghost use Rattle.std.specs.Prelude.{◌≡◌, ◌+◌, ◌≤◌, ◌↔◌, length, Some, IsTrue, IsSomeAnd, IfSome, IfOk};
 ghost use Rattle.bsa_descriptor.specs.declared.descriptor.Descriptor.{Descriptor as DescriptorView};
-ghost use Rattle.bsa_descriptor.specs.Text.{field};
+ghost use Rattle.byte_fields.specs.Fields.{field};
 ghost use Rattle.catalogue_slots.specs.Records.{Record, IsCopy};
 ghost use Rattle.catalogue_slots.specs.Fronts.{front_in};
-ghost use Rattle.catalogue_slots.specs.Parts.{Holds, HasCopyAlone, HoldsDescriptor, HoldsNumber};
+ghost use Rattle.catalogue_slots.specs.Parts.{Holds, HasCopyAlone, HoldsDescriptor};
 ghost use Rattle.catalogue_slots.specs.Views.{record_of};
 
-use crate::fields::is_zero_from;
 use crate::front::Front;
 use crate::runs::runs_in;
-use crate::{Entry, Slot};
+use crate::{ObjectEntry, Slot};
 use bsa_descriptor::{Descriptor, ObjectStatus};
+use byte_fields::{is_zero_from, u64_at};
 use std::alloc::{AllocError, Global};
 
 fn is_copy(copy: u64) -> bool
@@ -77,16 +77,6 @@ pub(crate) fn more_of(alloc: Global, front: Front, own: &[u8]) -> Result<Option<
     }))
 }
 
-fn u64_at(bytes: &[u8], at: usize) -> u64
-    requires { at + 8 ≤ length bytes.now }
-    ensures found { HoldsNumber at bytes.now result }
-    ensures only { (number : ℕ) → HoldsNumber at bytes.now number → result ≡ number }
-{
-    let mut number = [0; 8];
-    number.copy_from_slice(&bytes[at..at + 8]);
-    u64::from_be_bytes(number)
-}
-
 // The descriptor of an object with this copy id that the bytes spell, or `None` where they spell none.
 fn descriptor_in(copy: u64, bytes: &[u8; 2624]) -> Option<Descriptor>
     ensures found { IfSome result (HoldsDescriptor copy bytes.now) }
@@ -128,7 +118,7 @@ pub(crate) fn add_of(alloc: Global, front: Front, own: &[u8]) -> Result<Option<S
     };
     let mut digest = [0; 32];
     digest.copy_from_slice(&own[8..40]);
-    let entry = Entry {
+    let entry = ObjectEntry {
         copy: front.copy,
         volume: front.word,
         size: u64_at(own, 0),

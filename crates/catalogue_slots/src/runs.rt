@@ -2,13 +2,14 @@
 ghost use Rattle.std.specs.Prelude.{◌≡◌, ◌≢◌, ◌+◌, ◌*◌, ◌<◌, ◌≤◌, ◌↔◌, ◌++◌, List, length, take, IsTrue, IsSomeAnd, IfSome, IfOk};
 ghost use Rattle.std.specs.List.{flat_map};
 ghost use Rattle.block_chain.specs.declared.runs.Run.{Run as RunView};
-ghost use Rattle.catalogue_slots.specs.Records.{FitsRun, AreRuns};
+ghost use Rattle.block_chain.specs.Blocks.{FitsRun};
+ghost use Rattle.catalogue_slots.specs.Records.{AreRuns};
 ghost use Rattle.catalogue_slots.specs.Layout.{run_bytes, runs_in_place};
 ghost use Rattle.catalogue_slots.specs.Parts.{BeginsWithRuns, HoldsRuns};
-ghost use Rattle.bsa_descriptor.specs.Text.{field};
+ghost use Rattle.byte_fields.specs.Fields.{field};
 
-use crate::fields::{is_zero_from, write_bytes, write_zeros};
 use block_chain::Run;
+use byte_fields::{is_zero_from, write_bytes, write_zeros};
 use std::alloc::{AllocError, Global};
 
 #[tactic(auto, unfolding(crate::specs::Layout::run_bytes))]

@@ -1,7 +1,7 @@
 //! What a slot holds.
 ghost use Rattle.std.specs.Prelude.{◌≡◌, length, IsSomeAnd, IfSome, IfOk};
 
-use crate::Entry;
+use crate::ObjectEntry;
 use crate::front::front_of;
 use crate::reading::{add_of, base_of, del_of, more_of};
 use block_chain::Run;
@@ -14,7 +14,7 @@ pub const SLOT_LEN: usize = 4096;
 #[derive(Debug, Drop)]
 pub enum Slot {
     /// An object that is added, with the count of all its runs, and the first 177 of them in the entry.
-    Add { count: u32, entry: Entry },
+    Add { count: u32, entry: ObjectEntry },
     /// More runs of the object that is being added, 1 to 510.
     More { copy: u64, runs: Vec<Run> },
     /// An object is deleted.

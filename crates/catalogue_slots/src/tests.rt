@@ -6,7 +6,7 @@ use std::alloc::Global;
 use std::test::Fail;
 
 /// An object of 5 blocks with copy id 7, in runs of 2 and 3 blocks.
-fn small(alloc: Global) -> Result<Entry, Fail> {
+fn small(alloc: Global) -> Result<ObjectEntry, Fail> {
     let mut descriptor = Descriptor::empty();
     descriptor.copy = 7;
     let mut runs = Vec::new(alloc);
@@ -15,7 +15,7 @@ fn small(alloc: Global) -> Result<Entry, Fail> {
         first: 0x0102_0304,
         count: 3,
     })?;
-    Ok(Entry {
+    Ok(ObjectEntry {
         copy: 7,
         volume: 16,
         size: 5 * 4096 - 1,
@@ -26,7 +26,7 @@ fn small(alloc: Global) -> Result<Entry, Fail> {
 }
 
 /// An object of so many blocks, none of them neighbours.
-fn scattered(alloc: Global, runs: u32) -> Result<Entry, Fail> {
+fn scattered(alloc: Global, runs: u32) -> Result<ObjectEntry, Fail> {
     let mut entry = small(alloc)?;
     entry.runs.clear();
     for i in 0..runs.min(4096) {

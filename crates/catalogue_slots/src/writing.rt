@@ -1,17 +1,17 @@
 //! Records written into slots.
-ghost use Rattle.std.specs.Prelude.{◌≡◌, ◌+◌, ◌-◌, ◌*◌, ◌/◌, ◌^◌, ◌<◌, ◌≤◌, ◌++◌, length, take};
+ghost use Rattle.std.specs.Prelude.{◌≡◌, ◌+◌, ◌-◌, ◌*◌, ◌/◌, ◌^◌, ◌<◌, ◌≤◌, ◌++◌, length, take, drop};
 ghost use Rattle.std.specs.List.{flat_map};
-ghost use Rattle.bsa_descriptor.specs.Descriptor.{spelling as descriptor_bytes};
+ghost use Rattle.bsa_descriptor.specs.Descriptor.{IsDescriptor, spelling as descriptor_bytes};
 ghost use Rattle.catalogue_slots.specs.Records.{add, more, del, slots_for as slots_for_runs, mores, records_of};
 ghost use Rattle.catalogue_slots.specs.Layout.{spelling};
 ghost use Rattle.catalogue_slots.specs.Views.{object_of};
 
-use crate::fields::{write_bytes, write_zeros};
 use crate::front::{Front, write_front};
 use crate::runs::write_runs;
-use crate::{Entry, SLOT_LEN};
+use crate::{ObjectEntry, SLOT_LEN};
 use block_chain::Run;
 use bsa_descriptor::Descriptor;
+use byte_fields::{write_bytes, write_u64, write_zeros};
 
 /// The runs that an Add has room for.
 const ADD_RUNS: usize = 177;
@@ -30,7 +30,8 @@ pub fn slots_for(runs: usize) -> usize
 #[tactic(auto, unfolding(crate::specs::Layout::spelling, crate::specs::Layout::no_bytes))]
 pub fn write_del(into: &mut [u8], at: usize, copy: u64)
     requires { at + 4096 ≤ length into.old }
-    ensures { take (at + 4096) into.new ≡ take at into.old ++ spelling (del copy) }
+    ensures written { take (at + 4096) into.new ≡ take at into.old ++ spelling (del copy) }
+    ensures behind { drop (at + 4096) into.new ≡ drop (at + 4096) into.old }
 {
     let front = Front {
         kind: 3,
@@ -59,18 +60,20 @@ fn write_more(into: &mut [u8], at: usize, copy: u64, runs: &[Run])
 
 fn write_descriptor(into: &mut [u8], at: usize, descriptor: &Descriptor)
     requires { at + 2624 ≤ length into.old }
-    ensures { take (at + 2624) into.new ≡ take at into.old ++ descriptor_bytes descriptor.now }
+    ensures written { take (at + 2624) into.new ≡ take at into.old ++ descriptor_bytes descriptor.now }
+    ensures descriptor { IsDescriptor descriptor.now }
 {
     let mut record = [0; 2624];
     descriptor.encode_into(&mut record);
     write_bytes(into, at, &record);
 }
 
-fn write_add(into: &mut [u8], at: usize, entry: &Entry)
+fn write_add(into: &mut [u8], at: usize, entry: &ObjectEntry)
     requires few { length entry.now.runs.items < 2 ^ 32 }
     requires place { at + 4096 ≤ length into.old }
-    ensures { take (at + 4096) into.new ≡ take at into.old
+    ensures written { take (at + 4096) into.new ≡ take at into.old
         ++ spelling (add (length entry.now.runs.items) (record (object_of entry.now) { runs = take 177 entry.now.runs.items })) }
+    ensures descriptor { IsDescriptor entry.now.descriptor }
 {
     let runs = entry.runs.as_slice();
     let front = Front {
@@ -80,7 +83,7 @@ fn write_add(into: &mut [u8], at: usize, entry: &Entry)
         copy: entry.copy,
     };
     write_front(into, at, front);
-    write_bytes(into, at + 16, &entry.size.to_be_bytes());
+    write_u64(into, at + 16, entry.size);
     write_bytes(into, at + 24, &entry.digest);
     write_descriptor(into, at + 56, &entry.descriptor);
     write_runs(into, at + 2680, ADD_RUNS, &runs[..ADD_RUNS.min(runs.len())]);
@@ -99,19 +102,34 @@ fn write_mores(into: &mut [u8], at: usize, copy: u64, runs: &[Run])
     }
 }
 
-/// Writes the slots of an object that is added at this offset, as many as `slots_for` says.
-pub fn write_entry(into: &mut [u8], at: usize, entry: &Entry)
+/// Writes the slots of an object that is added, which fill the bytes.
+fn write_slots(into: &mut [u8], entry: &ObjectEntry)
     requires few { length entry.now.runs.items < 2 ^ 32 }
-    requires place { at + 4096 * slots_for_runs (length entry.now.runs.items) ≤ length into.old }
-    ensures { take (at + 4096 * slots_for_runs (length entry.now.runs.items)) into.new
-        ≡ take at into.old ++ flat_map spelling (records_of (object_of entry.now)) }
+    requires place { length into.old ≡ 4096 * slots_for_runs (length entry.now.runs.items) }
+    ensures written { into.new ≡ flat_map spelling (records_of (object_of entry.now)) }
+    ensures descriptor { IsDescriptor entry.now.descriptor }
 {
-    write_add(into, at, entry);
+    write_add(into, 0, entry);
     let runs = entry.runs.as_slice();
     write_mores(
         into,
-        at + SLOT_LEN,
+        SLOT_LEN,
         entry.copy,
         &runs[ADD_RUNS.min(runs.len())..],
     );
+}
+
+/// Writes the slots of an object that is added at this offset, as many as `slots_for` says.
+pub fn write_entry(into: &mut [u8], at: usize, entry: &ObjectEntry)
+    requires few { length entry.now.runs.items < 2 ^ 32 }
+    requires place { at + 4096 * slots_for_runs (length entry.now.runs.items) ≤ length into.old }
+    ensures written { take (at + 4096 * slots_for_runs (length entry.now.runs.items)) into.new
+        ≡ take at into.old ++ flat_map spelling (records_of (object_of entry.now)) }
+    ensures behind { drop (at + 4096 * slots_for_runs (length entry.now.runs.items)) into.new
+        ≡ drop (at + 4096 * slots_for_runs (length entry.now.runs.items)) into.old }
+    // So a slot is written only of a descriptor that has a record.
+    ensures descriptor { IsDescriptor entry.now.descriptor }
+{
+    let len = SLOT_LEN * slots_for(entry.runs.len());
+    write_slots(&mut into[at..at + len], entry);
 }

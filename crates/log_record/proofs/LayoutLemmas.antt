@@ -4,7 +4,7 @@ use Rattle.std.proofs.lemmas.List.{take_at, drop_at}
 use Rattle.std.specs.Int.{w64, to_be_bytes}
 use borrow.Rule.Slice.PartMut.{put_mid}
 use Rattle.std.specs.Prelude.{IfSome}
-use Rattle.log_history.specs.History.{Entry}
+use Rattle.log_history.specs.History.{LogEntry}
 use Rattle.log_record.specs.Layout.{IsRecord, Fields, front, laid, length-front, fields_at, entry_in, spelling}
 use Rattle.log_record.specs.LayoutLaws.{entry_in-spelling}
 
@@ -26,9 +26,9 @@ put_laid f a b c fronts bytes count restore =
     ap (λ (slot : List ℕ). put_mid 96 8 slot c) first ∙ second ∙ rw (fronts, bytes, restore) refl
 
 -- what is said of the record that a slot is read as is said of the record that it spells
-pub read_as : (P : Type 0) (slot : List ℕ) (f : Fields) (entry : Entry) → f ≡ fields_at slot → IfSome (entry_in f) (λ e. IsRecord e → P)
+pub read_as : (P : Type 0) (slot : List ℕ) (f : Fields) (entry : LogEntry) → f ≡ fields_at slot → IfSome (entry_in f) (λ e. IsRecord e → P)
     → IsRecord entry → slot ≡ spelling entry → P
 read_as P slot f entry read said ok spelt =
     let found : entry_in f ≡ Some entry =
     ap entry_in read ∙ ap (λ (s : List ℕ). entry_in (fields_at s)) spelt ∙ entry_in-spelling entry ok in
-    subst (λ (o : Option Entry). IfSome o (λ e. IsRecord e → P)) found said ok
+    subst (λ (o : Option LogEntry). IfSome o (λ e. IsRecord e → P)) found said ok

@@ -1,12 +1,12 @@
 -- The program's records as the history has them.
 use Rattle.std.specs.Prelude.{List, map}
-use Rattle.log_history.specs.History.{Entry, History, begin, write, commit, abort, reset}
+use Rattle.log_history.specs.History.{LogEntry, History, begin, write, commit, abort, reset}
 use Rattle.log_record.specs.Layout.{Fields}
 use Rattle.log_record.specs.declared.fields.Fields.{Fields as RustFields}
 use Rattle.log_record.specs.declared.records.Record.{Record}
 use Rattle.log_record.specs.declared.records.Record.TheVariants.{Begin, Write, Commit, Abort, Reset}
 
-abbrev pub entry_of : Record → Entry
+abbrev pub entry_of : Record → LogEntry
 entry_of (Begin txn) = begin txn
 entry_of (Write txn space page offset bytes) =
     write txn (record { space = space; page = page; offset = offset; bytes = bytes })

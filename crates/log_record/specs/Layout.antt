@@ -1,8 +1,9 @@
 -- A log record of 128 bytes: the records that have a spelling, and the spelling of each.
-use Rattle.std.specs.Prelude.{◌≡◌, ℕ, ◌+◌, ◌==◌, min, if◌then◌else◌, Option, Some, None, ◌-◌, ◌^◌, ◌<◌, ◌≤◌, List, [], ◌∷◌, ◌++◌, length, take, drop, replicate, slice_index, refl}
+use Rattle.std.specs.Prelude.{◌≡◌, ℕ, ◌+◌, ◌==◌, min, if◌then◌else◌, Option, Some, None, ◌^◌, ◌<◌, ◌≤◌, List, [], ◌∷◌, ◌++◌, length, take, replicate, slice_index, refl}
 use Rattle.std.specs.List.{AllByRecursion}
-use Rattle.std.specs.Int.{Width, w16, w32, w64, byte_len, to_be_bytes, from_be_bytes}
-use Rattle.log_history.specs.History.{Patch, Entry, begin, write, commit, abort, reset}
+use Rattle.std.specs.Int.{w16, w32, w64, to_be_bytes}
+use Rattle.byte_fields.specs.Fields.{field, number_at, padded}
+use Rattle.log_history.specs.History.{Patch, LogEntry, begin, write, commit, abort, reset}
 
 -- a transaction's number
 pub record IsTxn (txn : ℕ) : Type 0 where
@@ -23,7 +24,7 @@ abbrev pub IsBounded : ℕ → Type 0
 IsBounded n = n ≤ 2 ^ 48
 
 -- the records that have a spelling
-abbrev pub IsRecord : Entry → Type 0
+abbrev pub IsRecord : LogEntry → Type 0
 IsRecord (begin txn) = IsTxn txn
 IsRecord (write txn patch) = IsTxn txn × IsPatch patch
 IsRecord (commit txn time) = IsTxn txn × IsBounded time
@@ -43,10 +44,6 @@ pub record Fields : Type 0 where
   pub bytes : List ℕ
   pub restore : ℕ
 
--- bytes with zeros behind them, 64 in all
-abbrev pub padded : List ℕ → List ℕ
-padded bytes = bytes ++ replicate (64 - length bytes) 0
-
 -- a field that a kind doesn't have is 0
 unfoldable pub blank : Fields
 blank = record {
@@ -58,12 +55,12 @@ blank = record {
   offset = 0;
   time = 0;
   target = 0;
-  bytes = padded [];
+  bytes = padded 64 [];
   restore = 0;
 }
 
 -- kind 1 is a Begin, 2 a Write, 3 a Commit, 4 an Abort, 5 a Reset
-unfoldable pub fields_of : Entry → Fields
+unfoldable pub fields_of : LogEntry → Fields
 fields_of (begin txn) = record blank { kind = 1; txn = txn }
 fields_of (write txn patch) = record blank {
   kind = 2;
@@ -72,7 +69,7 @@ fields_of (write txn patch) = record blank {
   txn = txn;
   page = patch.page;
   offset = patch.offset;
-  bytes = padded patch.bytes;
+  bytes = padded 64 patch.bytes;
 }
 fields_of (commit txn time) = record blank { kind = 3; txn = txn; time = time }
 fields_of (abort txn) = record blank { kind = 4; txn = txn }
@@ -88,12 +85,8 @@ unfoldable pub laid : Fields → List ℕ
 laid f = front f ++ f.bytes ++ to_be_bytes w64 f.restore ++ replicate 24 0
 
 -- the bytes of a record
-unfoldable pub spelling : Entry → List ℕ
+unfoldable pub spelling : LogEntry → List ℕ
 spelling entry = laid (fields_of entry)
-
--- the number that stands in a number of bytes from a place on
-abbrev pub number_at : Width → ℕ → List ℕ → ℕ
-number_at w at bytes = from_be_bytes w (take (byte_len w) (drop at bytes))
 
 -- the fields that stand in 128 bytes
 unfoldable pub fields_at : List ℕ → Fields
@@ -106,7 +99,7 @@ fields_at slot = record {
   offset = number_at w16 12 slot;
   time = number_at w64 16 slot;
   target = number_at w64 24 slot;
-  bytes = take 64 (drop 32 slot);
+  bytes = field 32 64 slot;
   restore = number_at w64 96 slot;
 }
 
@@ -115,7 +108,7 @@ abbrev pub patch_in : Fields → Patch
 patch_in f = record { space = f.space; page = f.page; offset = f.offset; bytes = take (min f.len 64) f.bytes }
 
 -- the record whose fields these are, where the kind is one
-unfoldable pub entry_in : Fields → Option Entry
+unfoldable pub entry_in : Fields → Option LogEntry
 entry_in f =
     if f.kind == 1 then Some (begin f.txn)
     else (if f.kind == 2 then Some (write f.txn (patch_in f))

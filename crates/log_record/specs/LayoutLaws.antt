@@ -5,8 +5,10 @@ use Rattle.std.specs.Int.{w16, w32, w64, to_be_bytes, from_be_bytes}
 use Rattle.std.proofs.Common.{sym, ap, ◌∙◌, arith, append_assoc, length-append}
 use Rattle.std.proofs.lemmas.List.{take_at, drop_at, length-replicate}
 use Rattle.std.proofs.lemmas.Nat.{from_be_bytes-to_be_bytes_2, from_be_bytes-to_be_bytes_4, from_be_bytes-to_be_bytes_8}
-use Rattle.log_history.specs.History.{Entry, begin, write, commit, abort, reset}
-use Rattle.log_record.specs.Layout.{IsRecord, Fields, blank, fields_of, padded, front, laid, spelling, fields_at, entry_in, length-front}
+use Rattle.log_history.specs.History.{LogEntry, begin, write, commit, abort, reset}
+use Rattle.byte_fields.specs.Fields.{padded}
+use Rattle.byte_fields.proofs.FieldLemmas.{length-padded}
+use Rattle.log_record.specs.Layout.{IsRecord, Fields, blank, fields_of, front, laid, spelling, fields_at, entry_in, length-front}
 
 -- fields that fit their places
 pub record FieldsFit (f : Fields) : Type 0 where
@@ -52,11 +54,8 @@ fields_at-laid f fit =
     (ap (λ (s : List ℕ). from_be_bytes w64 (take 8 (drop 64 s))) behind ∙ ap (λ (s : List ℕ). from_be_bytes w64 (take 8 s)) (drop_at f.bytes tail 64 fit.count)
     ∙ from_be_bytes-to_be_bytes_8 f.restore fit.restore_fits)
 
-length-padded : (bytes : List ℕ) → length bytes ≤ 64 → length (padded bytes) ≡ 64
-length-padded bytes few = omega (arith, length-append bytes (replicate (64 - length bytes) 0), length-replicate {A = ℕ} (64 - length bytes) 0)
-
 -- a record's fields fit
-pub fields_fit : (entry : Entry) → IsRecord entry → FieldsFit (fields_of entry)
+pub fields_fit : (entry : LogEntry) → IsRecord entry → FieldsFit (fields_of entry)
 unfolding fields_of blank
 fields_fit (begin txn) ok = record {
   space_fits = omega arith;
@@ -75,7 +74,7 @@ fields_fit (write txn patch) ok = record {
   offset_fits = omega (arith, ok.1.within);
   time_fits = omega arith;
   target_fits = omega arith;
-  count = length-padded patch.bytes ok.1.few;
+  count = length-padded 64 patch.bytes ok.1.few;
   restore_fits = omega arith;
 }
 fields_fit (commit txn time) ok = record {
@@ -110,11 +109,11 @@ fields_fit (reset restore target time) ok = record {
 }
 
 -- what the fields of a record say is the record
-entry_in-fields_of : (entry : Entry) → IsRecord entry → entry_in (fields_of entry) ≡ Some entry
+entry_in-fields_of : (entry : LogEntry) → IsRecord entry → entry_in (fields_of entry) ≡ Some entry
 unfolding fields_of entry_in blank
 entry_in-fields_of (begin txn) ok = refl
 entry_in-fields_of (write txn patch) ok =
-    let whole : take (min (length patch.bytes) 64) (padded patch.bytes) ≡ patch.bytes =
+    let whole : take (min (length patch.bytes) 64) (padded 64 patch.bytes) ≡ patch.bytes =
     take_at patch.bytes (replicate (64 - length patch.bytes) 0) (min (length patch.bytes) 64) (omega (arith, ok.1.few)) in
     ap (λ (bytes : List ℕ). Some (write txn (record { space = patch.space; page = patch.page; offset = patch.offset; bytes = bytes }))) whole
 entry_in-fields_of (commit txn time) ok = refl
@@ -122,22 +121,22 @@ entry_in-fields_of (abort txn) ok = refl
 entry_in-fields_of (reset restore target time) ok = refl
 
 -- a record is read from its spelling
-pub entry_in-spelling : (entry : Entry) → IsRecord entry → entry_in (fields_at (spelling entry)) ≡ Some entry
+pub entry_in-spelling : (entry : LogEntry) → IsRecord entry → entry_in (fields_at (spelling entry)) ≡ Some entry
 unfolding spelling
 entry_in-spelling entry ok =
     ap entry_in (fields_at-laid (fields_of entry) (fields_fit entry ok)) ∙ entry_in-fields_of entry ok
 
 -- what a slot is read as is the record that it spells
-pub entry_is : (slot : List ℕ) (found entry : Entry) → entry_in (fields_at slot) ≡ Some found → IsRecord entry → slot ≡ spelling entry → found ≡ entry
+pub entry_is : (slot : List ℕ) (found entry : LogEntry) → entry_in (fields_at slot) ≡ Some found → IsRecord entry → slot ≡ spelling entry → found ≡ entry
 entry_is slot found entry read ok spelt =
     let again : Some found ≡ Some entry = sym read ∙ ap (λ (s : List ℕ). entry_in (fields_at s)) spelt ∙ entry_in-spelling entry ok in
     cc
 
 -- two records with one spelling are one
-pub one_spelling_of : (a b : Entry) → IsRecord a → IsRecord b → spelling a ≡ spelling b → a ≡ b
+pub one_spelling_of : (a b : LogEntry) → IsRecord a → IsRecord b → spelling a ≡ spelling b → a ≡ b
 one_spelling_of a b ok also same = entry_is (spelling a) a b (entry_in-spelling a ok) also same
 
-pub length-spelling : (entry : Entry) → IsRecord entry → length (spelling entry) ≡ 128
+pub length-spelling : (entry : LogEntry) → IsRecord entry → length (spelling entry) ≡ 128
 unfolding spelling laid
 length-spelling entry ok =
     let f : Fields = fields_of entry in
@@ -200,11 +199,11 @@ AreBytes-laid f kind len bytes =
     let restore : AreBytes to_restore = AreBytes-append to_bytes (to_be_bytes w64 f.restore) data_bytes (AreBytes-quad f.restore) in
     AreBytes-append to_restore (replicate 24 0) restore (AreBytes-zeros 24)
 
-AreBytes-padded : (bytes : List ℕ) → AreBytes bytes → AreBytes (padded bytes)
+AreBytes-padded : (bytes : List ℕ) → AreBytes bytes → AreBytes (padded 64 bytes)
 AreBytes-padded bytes each = AreBytes-append bytes (replicate (64 - length bytes) 0) each (AreBytes-zeros (64 - length bytes))
 
 -- a spelling is made of bytes
-pub AreBytes-spelling : (entry : Entry) → IsRecord entry → AreBytes (spelling entry)
+pub AreBytes-spelling : (entry : LogEntry) → IsRecord entry → AreBytes (spelling entry)
 unfolding spelling fields_of blank
 AreBytes-spelling (begin txn) ok = AreBytes-laid (fields_of (begin txn)) (omega arith) (omega arith) (AreBytes-zeros 64)
 AreBytes-spelling (write txn patch) ok =
@@ -219,5 +218,5 @@ pub record FillsSlot (bytes : List ℕ) : Type 0 where
   pub count : length bytes ≡ 128
   pub each : AreBytes bytes
 
-pub fills_slot : (entry : Entry) → IsRecord entry → FillsSlot (spelling entry)
+pub fills_slot : (entry : LogEntry) → IsRecord entry → FillsSlot (spelling entry)
 fills_slot entry ok = record { count = length-spelling entry ok; each = AreBytes-spelling entry ok }

@@ -1,11 +1,11 @@
 //! The fields of a record's 128 bytes: what stands in them for each record, and where they lie.
 ghost use Rattle.std.specs.Prelude.{◌≡◌, ◌+◌, ◌<◌, ◌≤◌, ◌↔◌, length, IsTrue, IsSome, IfSome, Some};
-ghost use Rattle.std.specs.Int.{w16, w32, w64};
 ghost use Rattle.log_history.specs.History.{write};
-ghost use Rattle.log_record.specs.Layout.{IsTxn, IsPatch, IsBounded, IsRecord, fields_of, fields_at, entry_in, patch_in, number_at, front, laid};
+ghost use Rattle.log_record.specs.Layout.{IsTxn, IsPatch, IsBounded, IsRecord, fields_of, fields_at, entry_in, patch_in, front, laid};
 ghost use Rattle.log_record.specs.Entry.{entry_of, fields_in};
 
 use crate::{Record, Text64};
+use byte_fields::{u16_at, u32_at, u64_at};
 
 /// What stands in the fields. One that a record doesn't have is 0.
 #[derive(Clone, Copy)]
@@ -113,33 +113,6 @@ pub(crate) fn lay(fields: &Fields, slot: &mut [u8; 128])
     slot[..32].copy_from_slice(&front_of(fields));
     slot[32..96].copy_from_slice(&fields.bytes);
     slot[96..104].copy_from_slice(&fields.restore.to_be_bytes());
-}
-
-fn u16_at(bytes: &[u8], at: usize) -> u16
-    requires { at + 2 ≤ length bytes.now }
-    ensures { result ≡ number_at w16 at bytes.now }
-{
-    let mut number = [0; 2];
-    number.copy_from_slice(&bytes[at..at + 2]);
-    u16::from_be_bytes(number)
-}
-
-fn u32_at(bytes: &[u8], at: usize) -> u32
-    requires { at + 4 ≤ length bytes.now }
-    ensures { result ≡ number_at w32 at bytes.now }
-{
-    let mut number = [0; 4];
-    number.copy_from_slice(&bytes[at..at + 4]);
-    u32::from_be_bytes(number)
-}
-
-fn u64_at(bytes: &[u8], at: usize) -> u64
-    requires { at + 8 ≤ length bytes.now }
-    ensures { result ≡ number_at w64 at bytes.now }
-{
-    let mut number = [0; 8];
-    number.copy_from_slice(&bytes[at..at + 8]);
-    u64::from_be_bytes(number)
 }
 
 /// The fields that stand in a slot.

@@ -6,12 +6,10 @@
 mod fields;
 mod laws;
 mod records;
-mod spans;
 #[cfg(test)]
 mod tests;
 mod text;
 
 pub use laws::{one_slot_each, one_spelling};
 pub use records::Record;
-pub use spans::FileSpan;
 pub use text::Text64;

@@ -1,6 +1,6 @@
 //! A record of the logical log, and its 128 bytes.
 ghost use Rattle.std.specs.Prelude.{◌≡◌, IfSome, IsSomeAnd};
-ghost use Rattle.log_history.specs.History.{Entry};
+ghost use Rattle.log_history.specs.History.{LogEntry};
 ghost use Rattle.log_record.specs.Layout.{IsRecord, spelling};
 ghost use Rattle.log_record.specs.Entry.{entry_of};
 
@@ -51,7 +51,7 @@ impl Record {
     /// The record whose bytes these are. `None` where they are no record's.
     pub fn decode(slot: &[u8; 128]) -> Option<Record>
         ensures found { IfSome result (λ r. IsRecord (entry_of r) × (slot.now ≡ spelling (entry_of r))) }
-        ensures only { (entry : Entry) → IsRecord entry → slot.now ≡ spelling entry
+        ensures only { (entry : LogEntry) → IsRecord entry → slot.now ≡ spelling entry
             → IsSomeAnd result (λ r. entry_of r ≡ entry) }
     {
         let record = fields::record_in(&fields::read(slot))?;

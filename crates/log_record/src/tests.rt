@@ -42,73 +42,45 @@ fn check(rt: &impl Abort, record: &Record, slot: &[u8; 128], fields: &[(usize, u
 }
 
 #[test]
-fn each_kind_by_hand(rt: HostRuntime) -> Result<(), Fail> {
+fn marks_by_hand(rt: HostRuntime) {
     let begin = Record::Begin { txn: 7 };
     check(&rt, &begin, &slot_of(&[(0, 1), (7, 7)]), &[(0, 1), (4, 8)]);
-    let first = write(1, 0, 0, 0, b"A")?;
-    check(
-        &rt,
-        &first,
-        &slot_of(&[(0, 2), (1, 1), (7, 1), (32, 0x41)]),
-        &[(0, 14), (32, 33)],
-    );
-    let last = write(0x0102_0304, 15, 65535, 4078, &[9, 0])?;
-    check(
-        &rt,
-        &last,
-        &slot_of(&[
-            (0, 2),
-            (1, 2),
-            (3, 15),
-            (4, 1),
-            (5, 2),
-            (6, 3),
-            (7, 4),
-            (10, 255),
-            (11, 255),
-            (12, 0x0f),
-            (13, 0xee),
-            (32, 9),
-        ]),
-        &[(0, 14), (32, 34)],
-    );
-    let commit = Record::Commit {
-        txn: 256,
-        time: 0x0102_0304_0506,
-    };
-    check(
-        &rt,
-        &commit,
-        &slot_of(&[
-            (0, 3),
-            (6, 1),
-            (18, 1),
-            (19, 2),
-            (20, 3),
-            (21, 4),
-            (22, 5),
-            (23, 6),
-        ]),
-        &[(0, 1), (4, 8), (16, 24)],
-    );
     let abort = Record::Abort { txn: 255 };
-    check(
-        &rt,
-        &abort,
-        &slot_of(&[(0, 4), (7, 255)]),
-        &[(0, 1), (4, 8)],
-    );
+    let bytes = [(0, 4), (7, 255)];
+    check(&rt, &abort, &slot_of(&bytes), &[(0, 1), (4, 8)]);
     let reset = Record::Reset {
         restore: 2,
         target: 258,
         time: 1 << 48,
     };
-    check(
-        &rt,
-        &reset,
-        &slot_of(&[(0, 5), (17, 1), (30, 1), (31, 2), (103, 2)]),
-        &[(0, 1), (16, 32), (96, 104)],
-    );
+    let bytes = [(0, 5), (17, 1), (30, 1), (31, 2), (103, 2)];
+    let fields = [(0, 1), (16, 32), (96, 104)];
+    check(&rt, &reset, &slot_of(&bytes), &fields);
+}
+
+#[test]
+fn a_commit_by_hand(rt: HostRuntime) {
+    let commit = Record::Commit {
+        txn: 256,
+        time: 0x0102_0304_0506,
+    };
+    let time = [(18, 1), (19, 2), (20, 3), (21, 4), (22, 5), (23, 6)];
+    let mut slot = slot_of(&time);
+    slot[0] = 3;
+    slot[6] = 1;
+    check(&rt, &commit, &slot, &[(0, 1), (4, 8), (16, 24)]);
+}
+
+#[test]
+fn writes_by_hand(rt: HostRuntime) -> Result<(), Fail> {
+    let first = write(1, 0, 0, 0, b"A")?;
+    let bytes = [(0, 2), (1, 1), (7, 1), (32, 0x41)];
+    check(&rt, &first, &slot_of(&bytes), &[(0, 14), (32, 33)]);
+    let last = write(0x0102_0304, 15, 65535, 4078, &[9, 0])?;
+    let mut slot = slot_of(&[(0, 2), (1, 2), (3, 15), (32, 9)]);
+    slot[4..8].copy_from_slice(&[1, 2, 3, 4]);
+    slot[10..14].copy_from_slice(&[255, 255, 0x0f, 0xee]);
+    check(&rt, &last, &slot, &[(0, 14), (32, 34)]);
     Ok(())
 }
 

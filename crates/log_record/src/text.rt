@@ -3,7 +3,7 @@ ghost use Rattle.std.specs.Prelude.{◌≡◌, ◌<◌, ◌≤◌, ◌↔◌, le
 ghost use Rattle.std.specs.List.{AllByRecursion};
 ghost use Rattle.std.specs.Cmp.{partial_equiv_from_equiv};
 ghost use Rattle.std.specs.Cmp.Lexicographic.{pointwise, nat_list_eq_equiv};
-ghost use Rattle.log_record.specs.Layout.{padded};
+ghost use Rattle.byte_fields.specs.Fields.{padded};
 
 use arrayvec::ArrayVec;
 use std::alloc::AllocError;
@@ -51,7 +51,7 @@ impl Text64 {
 
     /// The bytes, and zeros behind them.
     pub(crate) fn padded(&self) -> [u8; 64]
-        ensures { result ≡ padded self.now }
+        ensures { result ≡ padded 64 self.now }
     {
         let mut all = [0; 64];
         let bytes = self.as_bytes();

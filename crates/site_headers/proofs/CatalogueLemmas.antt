@@ -3,9 +3,8 @@ use Rattle.std.proofs.Common.{◌≡◌, ℕ, ◌+◌, ◌-◌, ◌*◌, ◌≤�
 use Rattle.std.specs.List.{flat_map}
 use Rattle.std.specs.Int.{to_be_bytes, w16, w32, w64}
 use Rattle.std.proofs.lemmas.List.{take-append-drop, drop-drop, length-drop}
-use Rattle.std.proofs.lemmas.List.Elements.{All-same, All-replicate}
 use Rattle.std.proofs.Math.Seq.{take-add}
-use Rattle.bsa_descriptor.proofs.Padding.{zeros_are_replicated}
+use Rattle.byte_fields.proofs.FieldLemmas.{replicate-zeros, zeros-replicate}
 use Rattle.onbar_grammar.specs.Script.{Space}
 use Rattle.site_disk.specs.Bytes.{extent}
 use Rattle.site_headers.specs.Heads.{Head, IsHead}
@@ -82,7 +81,7 @@ module _ (page : List ℕ) (site : ℕ) (sizes : Sizes) (spaces : List Space) (f
       drop-drop (24 * length spaces) 32 page ∙ ap (λ (n : ℕ). drop (32 + 24 * n) page) counted in
       let size : length (drop (32 + 24 * sizes.spaces) page) ≡ 4064 - 24 * length spaces =
       omega (arith, length-drop (32 + 24 * sizes.spaces) page, fills, counted) in
-      same ∙ zeros_are_replicated (drop (32 + 24 * sizes.spaces) page) zeros ∙ ap (λ (n : ℕ). replicate {A = ℕ} n 0) size
+      same ∙ replicate-zeros (4064 - 24 * length spaces) (drop (32 + 24 * sizes.spaces) page) size zeros
 
   own_parts : drop 16 page ≡ catalogue_own (head_with site sizes spaces)
   unfolding catalogue_own
@@ -143,5 +142,4 @@ module _ (page : List ℕ) (head : Head) (fills : length page ≡ 4096) (is : Is
       let n : ℕ = 24 * length head.spaces in
       let same : drop (32 + 24 * count) page ≡ replicate (4064 - 24 * length head.spaces) 0 =
       ap (λ (k : ℕ). drop (32 + 24 * k) page) counted ∙ sym (drop-drop n 32 page) ∙ ap (drop n) (behind 16) ∙ zeros-catalogue_own head is in
-      All-same (λ byte. byte ≡ 0) (drop (32 + 24 * count) page) (replicate (4064 - 24 * length head.spaces) 0) same
-      (All-replicate (λ byte. byte ≡ 0) (4064 - 24 * length head.spaces) 0 refl)
+      zeros-replicate (4064 - 24 * length head.spaces) (drop (32 + 24 * count) page) same

@@ -1,11 +1,10 @@
 -- A header by its front and its own bytes.
-use Rattle.std.proofs.Common.{◌≡◌, ℕ, ◌+◌, ◌-◌, ◌^◌, ◌<◌, ◌≤◌, List, [], ◌∷◌, ◌++◌, length, take, drop, replicate, codes, All, refl, sym, ap, ◌∙◌, subst, arith}
+use Rattle.std.proofs.Common.{◌≡◌, ℕ, ◌-◌, ◌^◌, ◌<◌, ◌≤◌, List, [], ◌∷◌, ◌++◌, length, take, drop, replicate, codes, All, refl, sym, ap, ◌∙◌, subst, arith}
 use Rattle.std.specs.Int.{to_be_bytes, w16, w32, w64}
 use Rattle.std.proofs.lemmas.List.{take-append-drop, drop-drop, length-drop}
-use Rattle.std.proofs.lemmas.List.Elements.{All-same, All-replicate}
 use Rattle.std.proofs.Math.Seq.{take-add}
-use Rattle.bsa_descriptor.proofs.Padding.{zeros_are_replicated}
-use Rattle.site_headers.specs.Headers.{header_tail, no_own, volume_own, log_tail, spare_tail, volume_tail, IsVolumeSize, HasHeader}
+use Rattle.byte_fields.proofs.FieldLemmas.{replicate-zeros, zeros-replicate}
+use Rattle.site_headers.specs.Headers.{header_tail, no_own, volume_own, plain_tail, volume_tail, IsVolumeSize, HasHeader}
 use Rattle.site_headers.specs.Parts.{HasFront, HasVolumeSize}
 use Rattle.site_headers.specs.HeaderLaws.{length-header_tail, HasHeader-page, page-HasHeader}
 
@@ -41,31 +40,23 @@ module _ (kind number site : ℕ) (own page : List ℕ) (fills : length page ≡
 
 pub zeros_no_own : (bytes : List ℕ) → length bytes ≡ 4080 → All (λ byte. byte ≡ 0) bytes → bytes ≡ no_own
 unfolding no_own
-zeros_no_own bytes fills zeros = zeros_are_replicated bytes zeros ∙ ap (λ (n : ℕ). replicate {A = ℕ} n 0) fills
+zeros_no_own = replicate-zeros 4080
 
 pub no_own_zeros : (bytes : List ℕ) → bytes ≡ no_own → All (λ byte. byte ≡ 0) bytes
 unfolding no_own
-no_own_zeros bytes e = All-same (λ byte. byte ≡ 0) bytes (replicate {A = ℕ} 4080 0) e (All-replicate (λ byte. byte ≡ 0) 4080 0 refl)
+no_own_zeros = zeros-replicate 4080
 
--- the log's header as it is written
-pub log_page : (site n : ℕ) → n ≡ 4080
-    → (1 ∷ codes "OBS" ++ 4 ∷ 1 ∷ [] ++ to_be_bytes w16 0 ++ to_be_bytes w64 site) ++ replicate {A = ℕ} n 0 ≡ 1 ∷ log_tail site
+-- a header with no bytes of its own as it is written
+pub plain_page : (kind site n : ℕ) → n ≡ 4080
+    → (1 ∷ codes "OBS" ++ kind ∷ 1 ∷ [] ++ to_be_bytes w16 0 ++ to_be_bytes w64 site) ++ replicate {A = ℕ} n 0 ≡ 1 ∷ plain_tail kind site
 unfolding header_tail no_own
-log_page site n e = ap (λ (k : ℕ). (1 ∷ codes "OBS" ++ 4 ∷ 1 ∷ [] ++ to_be_bytes w16 0 ++ to_be_bytes w64 site) ++ replicate {A = ℕ} k 0) e
-
--- and the spare disk's
-pub spare_page : (site n : ℕ) → n ≡ 4080
-    → (1 ∷ codes "OBS" ++ 2 ∷ 1 ∷ [] ++ to_be_bytes w16 0 ++ to_be_bytes w64 site) ++ replicate {A = ℕ} n 0 ≡ 1 ∷ spare_tail site
-unfolding header_tail no_own
-spare_page site n e = ap (λ (k : ℕ). (1 ∷ codes "OBS" ++ 2 ∷ 1 ∷ [] ++ to_be_bytes w16 0 ++ to_be_bytes w64 site) ++ replicate {A = ℕ} k 0) e
+plain_page kind site n e = ap (λ (k : ℕ). (1 ∷ codes "OBS" ++ kind ∷ 1 ∷ [] ++ to_be_bytes w16 0 ++ to_be_bytes w64 site) ++ replicate {A = ℕ} k 0) e
 
 -- a volume's own bytes by their parts
 pub HasVolumeSize-own : (page : List ℕ) (blocks : ℕ) → length page ≡ 4096 → HasVolumeSize page blocks → drop 16 page ≡ volume_own blocks
 unfolding volume_own
 HasVolumeSize-own page blocks fills has =
-    let zeros : drop 20 page ≡ replicate {A = ℕ} 4076 0 =
-    let long : length (drop 20 page) ≡ 4076 = omega (arith, length-drop 20 page, fills) in
-    zeros_are_replicated (drop 20 page) has.zeros ∙ ap (λ (n : ℕ). replicate {A = ℕ} n 0) long in
+    let zeros : drop 20 page ≡ replicate {A = ℕ} 4076 0 = replicate-zeros 4076 (drop 20 page) (omega (arith, length-drop 20 page, fills)) has.zeros in
     sym (take-append-drop 4 (drop 16 page)) ∙ ap (λ (l : List ℕ). l ++ drop 4 (drop 16 page)) has.blocks_stand.stands
     ∙ ap (λ (l : List ℕ). to_be_bytes w32 blocks ++ l) (drop-drop 4 16 page ∙ zeros)
 
@@ -75,7 +66,7 @@ own-HasVolumeSize page blocks size e = record {
   some = size.some;
   few = size.few;
   blocks_stand = record { fits = fits blocks size.few; stands = ap (take 4) e };
-  zeros = All-same (λ byte. byte ≡ 0) (drop 20 page) (replicate {A = ℕ} 4076 0) (sym (drop-drop 4 16 page) ∙ ap (drop 4) e) (All-replicate (λ byte. byte ≡ 0) 4076 0 refl);
+  zeros = zeros-replicate 4076 (drop 20 page) (sym (drop-drop 4 16 page) ∙ ap (drop 4) e);
 }
   where
     fits : (n : ℕ) → n ≤ 1048576 → n < 2 ^ 32
@@ -89,13 +80,11 @@ volume_page number site blocks n e =
     ap (λ (k : ℕ). (1 ∷ codes "OBS" ++ 5 ∷ 1 ∷ [] ++ to_be_bytes w16 number ++ to_be_bytes w64 site) ++ to_be_bytes w32 blocks ++ replicate {A = ℕ} k 0) e
 
 -- written part by part
-pub written_volume : (number site blocks : ℕ) (spelled first second third : List ℕ) → length second ≡ 4096 → spelled ≡ to_be_bytes w32 blocks
+pub written_volume : (number site blocks : ℕ) (first second third : List ℕ) → length second ≡ 4096
     → take 16 first ≡ 1 ∷ codes "OBS" ++ 5 ∷ 1 ∷ [] ++ to_be_bytes w16 number ++ to_be_bytes w64 site
-    → take (16 + length spelled) second ≡ take 16 first ++ spelled
+    → take 20 second ≡ take 16 first ++ to_be_bytes w32 blocks
     → third ≡ take 20 second ++ replicate {A = ℕ} (length second - 20) 0
     → third ≡ 1 ∷ volume_tail number site blocks
-written_volume number site blocks spelled first second third fills is front sizes zeros =
-    let own : take 20 second ≡ take 16 first ++ to_be_bytes w32 blocks =
-    subst (λ (l : List ℕ). take (16 + length l) second ≡ take 16 first ++ l) is sizes in
-    zeros ∙ ap (λ (l : List ℕ). l ++ replicate {A = ℕ} (length second - 20) 0) (own ∙ ap (λ (l : List ℕ). l ++ to_be_bytes w32 blocks) front)
+written_volume number site blocks first second third fills front sizes zeros =
+    zeros ∙ ap (λ (l : List ℕ). l ++ replicate {A = ℕ} (length second - 20) 0) (sizes ∙ ap (λ (l : List ℕ). l ++ to_be_bytes w32 blocks) front)
     ∙ volume_page number site blocks (length second - 20) (omega (arith, fills))

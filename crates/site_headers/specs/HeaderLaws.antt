@@ -10,7 +10,8 @@ use Rattle.site_disk.specs.Bytes.{extent}
 use Rattle.site_disk.specs.BytesLaws.{extent-extent}
 use Rattle.site_headers.specs.Heads.{Head, IsHead}
 use Rattle.site_headers.specs.Headers.{header_tail, space_bytes, catalogue_own, no_own, volume_own, catalogue_tail, log_tail, spare_tail, volume_tail, HasHeader}
-use Rattle.site_headers.specs.SpaceLaws.{length-spaces, same_number16, same_number32, same_number64, same_spaces}
+use Rattle.site_headers.specs.SpaceLaws.{length-spaces, same_spaces}
+use Rattle.byte_fields.proofs.FieldLemmas.{same_number}
 
 pub length-header_tail : (kind number site : ℕ) (own : List ℕ) → length own ≡ 4080 → length (header_tail kind number site own) ≡ 4095
 unfolding header_tail
@@ -122,15 +123,15 @@ same_parts a b sites blocks spaces =
 pub one_catalogue_header : (a b : Head) → IsHead a → IsHead b → catalogue_tail a ≡ catalogue_tail b → a ≡ b
 one_catalogue_header a b is_a is_b e =
     let own : catalogue_own a ≡ catalogue_own b = sym (own-catalogue_tail a) ∙ ap (drop 15) e ∙ own-catalogue_tail b in
-    let sites : a.site ≡ b.site = same_number64 a.site b.site is_a.site is_b.site
+    let sites : a.site ≡ b.site = same_number w64 a.site b.site (omega arith) is_a.site is_b.site
     (sym (site-catalogue_tail a) ∙ ap (λ (bytes : List ℕ). take 8 (drop 7 bytes)) e ∙ site-catalogue_tail b) in
     let few_a : length a.spaces ≤ 16 = is_a.few in
     let few_b : length b.spaces ≤ 16 = is_b.few in
-    let counts : length a.spaces ≡ length b.spaces = same_number16 (length a.spaces) (length b.spaces) (omega arith) (omega arith)
+    let counts : length a.spaces ≡ length b.spaces = same_number w16 (length a.spaces) (length b.spaces) (omega arith) (omega arith) (omega arith)
     (sym (count-catalogue_own a) ∙ ap (take 2) own ∙ count-catalogue_own b) in
     let a_blocks : a.blocks ≤ 1048576 = is_a.few_blocks in
     let b_blocks : b.blocks ≤ 1048576 = is_b.few_blocks in
-    let blocks : a.blocks ≡ b.blocks = same_number32 a.blocks b.blocks (omega arith) (omega arith)
+    let blocks : a.blocks ≡ b.blocks = same_number w32 a.blocks b.blocks (omega arith) (omega arith) (omega arith)
     (sym (blocks-catalogue_own a) ∙ ap (λ (bytes : List ℕ). take 4 (drop 8 bytes)) own ∙ blocks-catalogue_own b) in
     let spelled : flat_map space_bytes a.spaces ≡ flat_map space_bytes b.spaces =
     sym (spaces-catalogue_own a is_a) ∙ ap (λ (n : ℕ). take (24 * n) (drop 16 (catalogue_own a))) counts

@@ -29,13 +29,17 @@ no_own = replicate 4080 0
 abbrev pub catalogue_tail : Head → List ℕ
 catalogue_tail head = header_tail 1 0 head.site (catalogue_own head)
 
+-- a disk of this kind that has no bytes of its own
+abbrev pub plain_tail : ℕ → ℕ → List ℕ
+plain_tail kind site = header_tail kind 0 site no_own
+
 -- the log is kind 4
 abbrev pub log_tail : ℕ → List ℕ
-log_tail site = header_tail 4 0 site no_own
+log_tail site = plain_tail 4 site
 
 -- the spare disk is kind 2
 abbrev pub spare_tail : ℕ → List ℕ
-spare_tail site = header_tail 2 0 site no_own
+spare_tail site = plain_tail 2 site
 
 -- a volume's own bytes: 16 its blocks
 unfoldable pub volume_own : ℕ → List ℕ

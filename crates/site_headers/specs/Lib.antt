@@ -1,3 +1,4 @@
+pub mod Areas
 pub mod Heads
 pub mod Headers
 pub mod Views

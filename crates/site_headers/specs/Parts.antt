@@ -1,27 +1,14 @@
 -- Where the parts of a header stand.
-use Rattle.std.specs.Prelude.{◌≡◌, ℕ, ◌+◌, ◌*◌, ◌^◌, ◌<◌, ◌≤◌, List, [], ◌∷◌, ◌++◌, length, take, replicate, codes, drop, All, IsTrue}
+use Rattle.std.specs.Prelude.{◌≡◌, ℕ, ◌+◌, ◌*◌, ◌<◌, ◌≤◌, List, [], ◌∷◌, ◌++◌, length, take, replicate, codes, drop, All, IsTrue}
 use Rattle.std.specs.List.{AllByRecursion, flat_map}
 use Rattle.std.specs.Int.{w16, w32, w64, to_be_bytes}
-use Rattle.bsa_descriptor.specs.Text.{padded}
+use Rattle.byte_fields.specs.Fields.{padded, HasNumber}
 use Rattle.onbar_grammar.specs.Script.{Space}
 use Rattle.onbar_grammar.specs.Numbers.{is_name}
 use Rattle.site_disk.specs.Bytes.{extent}
 use Rattle.site_headers.specs.Heads.{IsSpace, IsFresh, AreDistinct}
 use Rattle.site_headers.specs.Headers.{space_bytes}
 use Rattle.site_headers.specs.declared.sizes.Sizes.{Sizes}
-
--- a number stands at this place in two, four or eight bytes
-pub record HasNumber16 (at : ℕ) (bytes : List ℕ) (number : ℕ) : Type 0 where
-  pub fits : number < 2 ^ 16
-  pub stands : extent at 2 bytes ≡ to_be_bytes w16 number
-
-pub record HasNumber32 (at : ℕ) (bytes : List ℕ) (number : ℕ) : Type 0 where
-  pub fits : number < 2 ^ 32
-  pub stands : extent at 4 bytes ≡ to_be_bytes w32 number
-
-pub record HasNumber64 (at : ℕ) (bytes : List ℕ) (number : ℕ) : Type 0 where
-  pub fits : number < 2 ^ 64
-  pub stands : extent at 8 bytes ≡ to_be_bytes w64 number
 
 -- bytes 0 to 15 of an open header
 pub record HasFront (kind number : ℕ) (page : List ℕ) (site : ℕ) : Type 0 where
@@ -30,7 +17,7 @@ pub record HasFront (kind number : ℕ) (page : List ℕ) (site : ℕ) : Type 0 
   pub gate_stands : extent 0 1 page ≡ gate ∷ []
   pub named : extent 1 5 page ≡ codes "OBS" ++ kind ∷ 1 ∷ []
   pub number_stands : extent 6 2 page ≡ to_be_bytes w16 number
-  pub site_stands : HasNumber64 8 page site
+  pub site_stands : HasNumber w64 8 page site
 
 -- bytes 16 to 31 of the catalogue's header: the count of spaces and the blocks of a volume, each within its limits
 pub record HasSizes (page : List ℕ) (sizes : Sizes) : Type 0 where
@@ -38,16 +25,16 @@ pub record HasSizes (page : List ℕ) (sizes : Sizes) : Type 0 where
   pub few : sizes.spaces ≤ 16
   pub some_blocks : 1 ≤ sizes.blocks
   pub few_blocks : sizes.blocks ≤ 1048576
-  pub spaces_stand : HasNumber16 16 page sizes.spaces
+  pub spaces_stand : HasNumber w16 16 page sizes.spaces
   pub zeros : extent 18 6 page ≡ replicate 6 0
-  pub blocks_stand : HasNumber32 24 page sizes.blocks
+  pub blocks_stand : HasNumber w32 24 page sizes.blocks
   pub more_zeros : extent 28 4 page ≡ replicate 4 0
 
 -- bytes 16 on of a volume's header: its blocks, within the limits, and zeros
 pub record HasVolumeSize (page : List ℕ) (blocks : ℕ) : Type 0 where
   pub some : 1 ≤ blocks
   pub few : blocks ≤ 1048576
-  pub blocks_stand : HasNumber32 16 page blocks
+  pub blocks_stand : HasNumber w32 16 page blocks
   pub zeros : All (λ byte. byte ≡ 0) (drop 20 page)
 
 -- a name stands at this place, with zeros behind it up to 20 bytes
@@ -60,7 +47,7 @@ pub record HasSpace (at : ℕ) (bytes : List ℕ) (space : Space) : Type 0 where
   pub name_stands : HasName at bytes space.name
   pub some : 1 ≤ space.pages
   pub few : space.pages ≤ 65536
-  pub pages_stand : HasNumber32 (at + 20) bytes space.pages
+  pub pages_stand : HasNumber w32 (at + 20) bytes space.pages
 
 -- a space that has none of the names before it
 pub record HasNewSpace (at : ℕ) (bytes : List ℕ) (before : List Space) (space : Space) : Type 0 where

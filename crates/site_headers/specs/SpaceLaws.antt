@@ -1,16 +1,16 @@
 -- Laws of the bytes of spaces.
-use Rattle.std.specs.Prelude.{◌≡◌, ℕ, ◌*◌, ◌^◌, ◌<◌, ◌≤◌, ◌&&◌, nat_le, nat_eq, IsTrue, List, [], ◌∷◌, length, take, drop, position, All, Some}
+use Rattle.std.specs.Prelude.{◌≡◌, ℕ, ◌*◌, ◌<◌, ◌≤◌, ◌&&◌, nat_le, IsTrue, List, [], ◌∷◌, length, take, drop, All}
 use Rattle.std.specs.List.{AllByRecursion, flat_map, list_all}
-use Rattle.std.specs.Int.{to_be_bytes, from_be_bytes, w16, w32, w64}
+use Rattle.std.specs.Int.{to_be_bytes, w32}
 use Rattle.std.proofs.Common.{arith, ap, sym, ◌∙◌, refl}
 use Rattle.std.proofs.lemmas.Bool.{and_parts, leb-true}
 use Rattle.std.proofs.lemmas.Bool.Decides.{nat_tests}
 use Rattle.std.proofs.lemmas.List.{length-append, take_at, drop_at}
 use Rattle.std.proofs.lemmas.List.Elements.{All-cons, All-nil}
-use Rattle.std.proofs.lemmas.Nat.{from_be_bytes-to_be_bytes_2, from_be_bytes-to_be_bytes_4, from_be_bytes-to_be_bytes_8}
-use Rattle.bsa_descriptor.specs.Text.{IsPrinted, IsText, padded}
-use Rattle.bsa_descriptor.proofs.Fields.{length-padded}
-use Rattle.bsa_descriptor.proofs.Padding.{position-padded, take-padded}
+use Rattle.byte_fields.specs.Fields.{padded}
+use Rattle.byte_fields.proofs.FieldLemmas.{length-padded, same_number, same_text}
+use Rattle.bsa_descriptor.specs.Text.{IsPrinted, IsText}
+use Rattle.bsa_descriptor.proofs.TextLemmas.{FitsField-text}
 use Rattle.onbar_grammar.specs.Script.{Space}
 use Rattle.onbar_grammar.specs.Numbers.{is_name, is_letter, is_name_character}
 use Rattle.site_headers.specs.Heads.{IsSpace}
@@ -44,7 +44,7 @@ pub name_fits : (space : Space) → IsSpace space → IsText 20 space.name
 name_fits space is = IsText-name 20 space.name (omega arith) is.named
 
 pub length-name_field : (space : Space) → IsSpace space → length (padded 20 space.name) ≡ 20
-length-name_field space is = length-padded 20 space.name (name_fits space is)
+length-name_field space is = length-padded 20 space.name (omega (arith, (name_fits space is).shorter))
 
 pub length-space_bytes : (space : Space) → IsSpace space → length (space_bytes space) ≡ 24
 unfolding space_bytes
@@ -58,24 +58,6 @@ pub drop-space_bytes : (space : Space) → IsSpace space → drop 20 (space_byte
 unfolding space_bytes
 drop-space_bytes space is = drop_at (padded 20 space.name) (to_be_bytes w32 space.pages) 20 (length-name_field space is)
 
--- a padded text is no other's
-same_texts : (width : ℕ) (a b : List ℕ) → IsText width a → IsText width b → padded width a ≡ padded width b → a ≡ b
-same_texts width a b is_a is_b e =
-    let first : position (λ byte. nat_eq byte 0) (padded width a) ≡ Some (length a) = position-padded width a (padded width a) is_a refl in
-    let second : position (λ byte. nat_eq byte 0) (padded width a) ≡ Some (length b) = position-padded width b (padded width a) is_b e in
-    let same_length : length a ≡ length b = cc in
-    sym (take-padded width (length a) a (padded width a) refl refl) ∙ take-padded width (length a) b (padded width a) e same_length
-
--- the bytes of a number are no other's
-pub same_number16 : (m n : ℕ) → m < 2 ^ 16 → n < 2 ^ 16 → to_be_bytes w16 m ≡ to_be_bytes w16 n → m ≡ n
-same_number16 m n m_fits n_fits e = sym (from_be_bytes-to_be_bytes_2 m m_fits) ∙ ap (from_be_bytes w16) e ∙ from_be_bytes-to_be_bytes_2 n n_fits
-
-pub same_number64 : (m n : ℕ) → m < 2 ^ 64 → n < 2 ^ 64 → to_be_bytes w64 m ≡ to_be_bytes w64 n → m ≡ n
-same_number64 m n m_fits n_fits e = sym (from_be_bytes-to_be_bytes_8 m m_fits) ∙ ap (from_be_bytes w64) e ∙ from_be_bytes-to_be_bytes_8 n n_fits
-
-pub same_number32 : (m n : ℕ) → m < 2 ^ 32 → n < 2 ^ 32 → to_be_bytes w32 m ≡ to_be_bytes w32 n → m ≡ n
-same_number32 m n m_fits n_fits e = sym (from_be_bytes-to_be_bytes_4 m m_fits) ∙ ap (from_be_bytes w32) e ∙ from_be_bytes-to_be_bytes_4 n n_fits
-
 abbrev space_with : List ℕ → ℕ → Space
 space_with name pages = record { name = name; pages = pages }
 
@@ -85,10 +67,10 @@ same_fields a b names pages = ap (λ (name : List ℕ). space_with name a.pages)
 -- the bytes of a space are no other's
 pub same_space : (a b : Space) → IsSpace a → IsSpace b → space_bytes a ≡ space_bytes b → a ≡ b
 same_space a b is_a is_b e =
-    let names : a.name ≡ b.name = same_texts 20 a.name b.name (name_fits a is_a) (name_fits b is_b) (sym (take-space_bytes a is_a) ∙ ap (take 20) e ∙ take-space_bytes b is_b) in
+    let names : a.name ≡ b.name = same_text 20 a.name b.name (FitsField-text 20 a.name (name_fits a is_a)) (FitsField-text 20 b.name (name_fits b is_b)) (sym (take-space_bytes a is_a) ∙ ap (take 20) e ∙ take-space_bytes b is_b) in
     let a_few : a.pages ≤ 65536 = is_a.few in
     let b_few : b.pages ≤ 65536 = is_b.few in
-    let pages : a.pages ≡ b.pages = same_number32 a.pages b.pages (omega arith) (omega arith) (sym (drop-space_bytes a is_a) ∙ ap (drop 20) e ∙ drop-space_bytes b is_b) in
+    let pages : a.pages ≡ b.pages = same_number w32 a.pages b.pages (omega arith) (omega arith) (omega arith) (sym (drop-space_bytes a is_a) ∙ ap (drop 20) e ∙ drop-space_bytes b is_b) in
     same_fields a b names pages
 
 pub length-spaces : (spaces : List Space) → AllByRecursion IsSpace spaces → length (flat_map space_bytes spaces) ≡ 24 * length spaces

@@ -5,11 +5,11 @@ ghost use Rattle.site_headers.specs.Headers.{catalogue_tail, HasHeader};
 ghost use Rattle.site_headers.specs.Views.{head_of};
 
 use crate::SiteHead;
-use crate::fields::{is_zero_from, write_zeros_from};
 use crate::front::{site_of_front, write_front};
 use crate::kinds::DiskKind;
 use crate::sizes::{Sizes, sizes_of, write_sizes};
 use crate::spaces::{spaces_from, write_spaces};
+use byte_fields::{is_zero_from, write_zeros_from};
 use site_disk::OutOfMemory;
 use std::alloc::Global;
 

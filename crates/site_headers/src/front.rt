@@ -5,8 +5,8 @@ ghost use Rattle.std.specs.Int.{w16, w64, to_be_bytes};
 ghost use Rattle.site_headers.specs.Kinds.{kind_code};
 ghost use Rattle.site_headers.specs.Parts.{HasFront};
 
-use crate::fields::{byte_at, has_bytes, u64_at, write_bytes};
 use crate::kinds::DiskKind;
+use byte_fields::{byte_at, has_bytes, u64_at, write_bytes, write_u16, write_u64};
 
 /// The gate of a header that is written. Any byte but 0 is open.
 const OPEN: u8 = 1;
@@ -20,8 +20,8 @@ pub(crate) fn write_front(page: &mut [u8], kind: DiskKind, number: u16, site: u6
     ensures { take 16 page.new ≡ 1 ∷ codes "OBS" ++ kind_code kind ∷ 1 ∷ [] ++ to_be_bytes w16 number ++ to_be_bytes w64 site }
 {
     write_bytes(page, 0, &[OPEN, b'O', b'B', b'S', kind.code(), VERSION]);
-    write_bytes(page, 6, &number.to_be_bytes());
-    write_bytes(page, 8, &site.to_be_bytes());
+    write_u16(page, 6, number);
+    write_u64(page, 8, site);
 }
 
 /// The site's id, or `None` where the page has no open front of this kind and number.

@@ -4,24 +4,23 @@
 //! catalogue's header is that of one site at most. Writing takes no memory, and reading fails only by want of it.
 #![tactic(auto)]
 
+mod areas;
 mod catalogue;
-mod fields;
 mod front;
 mod heads;
 mod kinds;
 mod laws;
-mod log;
 mod names;
+mod plain;
 mod sizes;
 mod spaces;
-mod spare;
 #[cfg(test)]
 mod tests;
 mod volume;
 
+pub use areas::{GATES_AT, LOG_SLOT_LEN, SLOTS, SLOTS_AT};
 pub use catalogue::{read_catalogue_header, write_catalogue_header};
 pub use heads::{SiteHead, SpaceHead};
 pub use laws::{header_fills_its_page, header_is_the_first_page, one_catalogue_header};
-pub use log::{is_log_header, write_log_header};
-pub use spare::{is_spare_header, write_spare_header};
+pub use plain::{is_log_header, is_spare_header, write_log_header, write_spare_header};
 pub use volume::{read_volume_header, write_volume_header};

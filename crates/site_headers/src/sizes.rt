@@ -4,7 +4,7 @@ ghost use Rattle.std.specs.Int.{w16, w32, to_be_bytes};
 ghost use Rattle.site_headers.specs.declared.sizes.Sizes.{Sizes};
 ghost use Rattle.site_headers.specs.Parts.{HasSizes, HasVolumeSize};
 
-use crate::fields::{has_bytes, is_zero_from, u16_at, u32_at, write_bytes, write_zeros};
+use byte_fields::{has_bytes, is_zero_from, u16_at, u32_at, write_u16, write_u32, write_zeros};
 
 /// The number of spaces, and the blocks of a volume.
 #[derive(Clone, Copy)]
@@ -18,9 +18,9 @@ pub(crate) fn write_sizes(page: &mut [u8], sizes: Sizes)
     requires { 32 ≤ length page.old }
     ensures { take 32 page.new ≡ take 16 page.old ++ to_be_bytes w16 sizes.spaces ++ replicate 6 0 ++ to_be_bytes w32 sizes.blocks ++ replicate 4 0 }
 {
-    write_bytes(page, 16, &sizes.spaces.to_be_bytes());
+    write_u16(page, 16, sizes.spaces);
     write_zeros(page, 18, 6);
-    write_bytes(page, 24, &sizes.blocks.to_be_bytes());
+    write_u32(page, 24, sizes.blocks);
     write_zeros(page, 28, 4);
 }
 

@@ -8,9 +8,9 @@ ghost use Rattle.site_headers.specs.Parts.{HasSpace, HasNewSpace, BeginsWithSpac
 ghost use Rattle.site_headers.specs.Views.{space_of};
 
 use crate::SpaceHead;
-use crate::fields::{u32_at, write_bytes, write_zeros};
 use crate::names::name_at;
 use bsa_descriptor::Text;
+use byte_fields::{u32_at, write_text, write_u32};
 use site_disk::OutOfMemory;
 use std::alloc::Global;
 
@@ -19,10 +19,8 @@ fn write_space(page: &mut [u8], at: usize, space: &SpaceHead)
     requires { at + 24 ≤ length page.old }
     ensures { take (at + 24) page.new ≡ take at page.old ++ space_bytes (space_of space.now) }
 {
-    let name = space.name.as_bytes();
-    write_bytes(page, at, name);
-    write_zeros(page, at + name.len(), 20 - name.len());
-    write_bytes(page, at + 20, &space.pages.to_be_bytes());
+    write_text(page, at, 20, space.name.as_bytes());
+    write_u32(page, at + 20, space.pages);
 }
 
 /// Writes the spaces one after another from this offset on.

@@ -2,10 +2,10 @@
 ghost use Rattle.std.specs.Prelude.{◌≡◌, ◌∷◌, ℕ, Some, IfSome};
 ghost use Rattle.site_headers.specs.Headers.{volume_tail, IsVolumeSize, HasHeader};
 
-use crate::fields::{write_bytes, write_zeros_from};
 use crate::front::{site_of_front, write_front};
 use crate::kinds::DiskKind;
 use crate::sizes::volume_size_of;
+use byte_fields::{write_u32, write_zeros_from};
 
 /// Writes the header of a site's volume with this number and so many blocks: the gate as 1, and the other 4,095 bytes
 /// of the page.
@@ -13,7 +13,7 @@ pub fn write_volume_header(number: u16, site: u64, blocks: u32, page: &mut [u8; 
     ensures { page.new ≡ 1 ∷ volume_tail number site blocks }
 {
     write_front(page, DiskKind::Volume, number, site);
-    write_bytes(page, 16, &blocks.to_be_bytes());
+    write_u32(page, 16, blocks);
     write_zeros_from(page, 20);
 }
 

@@ -1,8 +1,7 @@
 use Rattle.std.proofs.Common.{◌≡◌, ℕ, ◌+◌, ◌*◌, ◌^◌, ◌<◌, ◌≤◌, ◌≢◌, List, ◌++◌, [], ◌∷◌, subst, arith}
-use Rattle.block_chain.specs.Blocks.{AreMaximal}
+use Rattle.block_chain.specs.Blocks.{AreMaximal, FitsRun}
 use Rattle.block_chain.specs.declared.runs.Run.{Run}
-use Rattle.bsa_descriptor.specs.Text.{field}
-use Rattle.catalogue_slots.specs.Records.{FitsRun}
+use Rattle.byte_fields.specs.Fields.{field}
 use Rattle.catalogue_slots.specs.Parts.{BeginsWithRuns}
 use Rattle.catalogue_slots.specs.Layout.{run_bytes}
 use Rattle.catalogue_slots.proofs.RunLemmas.{EndsAt-nil, EndsAt-push, BeginsWithRuns-nil, BeginsWithRuns-push, BeginsWithRuns-once, next_run}

@@ -1,5 +1,4 @@
 use Rattle.std.proofs.Common.{arith}
-use Rattle.site_headers.specs.Parts.{HasVolumeSize}
 use Rattle.site_headers.proofs.sizes.volume_size_of.Goals as goal
 
 pub returns-then-matches-clause-found : goal.returns-then-matches-clause-found

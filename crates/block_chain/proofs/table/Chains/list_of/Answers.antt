@@ -3,7 +3,8 @@ use Rattle.std.proofs.lemmas.List.{take_all}
 use Rattle.block_chain.specs.Blocks.{AreSound, ascending, blocks_of_runs}
 use Rattle.block_chain.specs.Table.{Table}
 use Rattle.block_chain.specs.declared.runs.Run.{Run}
-use Rattle.block_chain.proofs.RunLemmas.{listed_sound, blocks_of_runs-split, blocks_of_runs-take, run_fits, len_fits, Spans-joined, Spans-run, blocks_of-spanned, IsListOf-spanned}
+use Rattle.block_chain.specs.RunLaws.{run_fits}
+use Rattle.block_chain.proofs.RunLemmas.{listed_sound, blocks_of_runs-split, blocks_of_runs-take, len_fits, Spans-joined, Spans-run, blocks_of-spanned, IsListOf-spanned}
 use Rattle.block_chain.proofs.table.Chains.list_of.Goals as goal
 
 pub as_list-requires : goal.as_list-requires

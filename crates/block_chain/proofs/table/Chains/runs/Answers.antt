@@ -2,7 +2,7 @@ use Rattle.std.proofs.Common.{◌≡◌, ◌≢◌, ◌+◌, ◌<◌, ◌++◌, 
 use Rattle.std.proofs.lemmas.Bool.{false≢true}
 use Rattle.std.proofs.lemmas.List.{get_or_read}
 use Rattle.block_chain.specs.Table.{Table, blocks_of}
-use Rattle.block_chain.proofs.RunLemmas.{walked_within, walked_next, HasWalked-longer, HasWalked-begun}
+use Rattle.block_chain.proofs.RunLemmas.{walked_within, walked_next, HasWalked-longer, HasWalked-begun, HasWalked-fit}
 use Rattle.block_chain.proofs.table.Chains.runs.Goals as goal
 
 pub index-block-requires : goal.index-block-requires
@@ -37,3 +37,11 @@ loop-left-preserved c =
     rw (pushed, c.of_block-run-else-ends_before.ensures)
     (HasWalked-begun c.self.inside.next.items (blocks_of c.args.self.now c.args.list.now) c.loop-left.runs.items c.loop-left.run c.loop-left.block c.loop-left.left c.index-block.result.now
     c.loop-left-test.true follows elsewhere c.loop-left.invariant)
+
+pub returns-clause-fit : goal.returns-clause-fit
+returns-clause-fit c =
+    let pushed : c.push-2.new.self.items ≡ c.loop-left.runs.items ++ c.loop-left.run ∷ [] = rw (sym c.in_ok-map_err-2.ensures.variant) at c.push-2.ensures.items in
+    let blocks : c.self.inside.blocks ≡ c.args.self.now.blocks = ap (λ (t : Table). t.blocks) c.self.view_is in
+    rw pushed
+    (HasWalked-fit c.args.self.now.blocks c.self.inside.next.items (blocks_of c.args.self.now c.args.list.now) c.loop-left.runs.items c.loop-left.run c.loop-left.block c.loop-left.left
+    (omega (arith, c.loop-left-test.false)) (omega (arith, blocks, c.self.invariant.limit)) c.requires.own.sound c.loop-left.invariant)

@@ -1,4 +1,4 @@
-use Rattle.bsa_descriptor.proofs.Fields.{FieldsAt, FieldsAt-spelling, spelling-joined, IsDescriptor-joined, Some-joined, names_in, numbers_in, kinds_in, notes_in}
+use Rattle.bsa_descriptor.proofs.SpellingLemmas.{FieldsAt, FieldsAt-spelling, spelling-joined, IsDescriptor-joined, Some-joined, names_in, numbers_in, kinds_in, notes_in}
 use Rattle.bsa_descriptor.proofs.descriptor.Descriptor.decode.Goals as goal
 
 pub returns-then-not-is_zero_from-clause-only : goal.returns-then-not-is_zero_from-clause-only

@@ -1,7 +1,7 @@
 use Rattle.std.proofs.Common.{◌≡◌, take, arith, refl}
 use Rattle.std.proofs.lemmas.List.{take_all}
 use Rattle.bsa_descriptor.specs.Descriptor.{spelling}
-use Rattle.bsa_descriptor.proofs.Fields.{spelling_once}
+use Rattle.bsa_descriptor.proofs.SpellingLemmas.{spelling_once}
 use Rattle.bsa_descriptor.proofs.descriptor.Descriptor.encode_into.Goals as goal
 
 pub returns-clause-spelled : goal.returns-clause-spelled
@@ -10,13 +10,13 @@ returns-clause-spelled c =
     let whole : take 2624 c.write_zeros.new.into ≡ c.write_zeros.new.into = take_all 2624 c.write_zeros.new.into (omega arith) in
     rw (
       ← whole,
-      c.write_zeros.ensures,
+      c.write_zeros.ensures.written,
       c.write_text-7.ensures.written,
       c.write_text-6.ensures.written,
       c.write_text-5.ensures.written,
-      c.write_bytes-3.ensures,
-      c.write_bytes-2.ensures,
-      c.write_bytes.ensures,
+      c.write_bytes-3.ensures.written,
+      c.write_bytes-2.ensures.written,
+      c.write_bytes.ensures.written,
       c.code-3.ensures,
       c.code-2.ensures,
       c.code.ensures,

@@ -1,4 +1,4 @@
-use Rattle.std.proofs.Common.{subst, sym, ℕ, List}
+use Rattle.std.proofs.Common.{subst, sym}
 use Rattle.std.specs.Str.{IsUtf8}
 use Rattle.bsa_descriptor.proofs.Printing.{utf8_of_text}
 use Rattle.bsa_descriptor.proofs.text.Text.as_str.Goals as goal

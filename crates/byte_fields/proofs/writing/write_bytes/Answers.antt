@@ -1,0 +1,6 @@
+use Rattle.std.proofs.Common.{◌+◌, length, arith}
+use Rattle.std.proofs.lemmas.Slice.{drop-put_mid}
+use Rattle.byte_fields.proofs.writing.write_bytes.Goals as goal
+
+pub returns-clause-behind : goal.returns-clause-behind
+returns-clause-behind c = drop-put_mid c.args.offset _ _ _ (c.args.offset + length c.args.bytes.now) (omega arith) (omega arith) (omega arith)
