@@ -3,3 +3,4 @@ pub mod ListLaws
 pub mod SpelledLaws
 pub mod PagesLaws
 pub mod RegionLaws
+pub mod RestoredLaws

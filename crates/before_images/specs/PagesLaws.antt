@@ -1,34 +1,12 @@
 -- Laws of pages and their images.
-use Rattle.std.specs.Prelude.{◌≡◌, ◌⊎◌, ℕ, zero, suc, ◌+◌, ◌-◌, ◌*◌, ◌<◌, ◌≤◌, List, [], ◌∷◌, ◌++◌, length, take, drop, get_or, refl}
+use Rattle.std.specs.Prelude.{◌≡◌, ◌⊎◌, ℕ, zero, suc, ◌+◌, ◌*◌, ◌<◌, ◌≤◌, List, [], ◌∷◌, ◌++◌, length, take, drop, get_or, refl}
 use mathlib.Core.Logic.{inl, inr}
-use Rattle.std.proofs.Common.{arith, ap, sym, ◌∙◌, ⊎_elim, length-append, length-drop}
-use Rattle.std.proofs.lemmas.List.{get_or_append_left, get_or-append_right, get_or-take, get_or-drop, ext_get_or, take_at, drop_at, length-take-le}
+use Rattle.std.proofs.Common.{arith, ap, sym, ◌∙◌, ⊎_elim, length-append, length-take, length-drop}
+use Rattle.std.proofs.lemmas.List.{ext_get_or, take_at, drop_at, length-take-le}
 use Rattle.std.proofs.lemmas.Bool.{cases_lt}
 use Rattle.site_disk.specs.Bytes.{extent, written}
-use Rattle.site_disk.specs.BytesLaws.{written-same, length-written, length-extent, extent-one}
-use Rattle.before_images.specs.Saved.{place_of, present, laid, Lie, Within}
-
--- a byte after a write
-module _ (at : ℕ) (piece bytes : List ℕ) (within : at ≤ length bytes) (x : ℕ) where
-  front_long : length (take at bytes ++ piece) ≡ at + length piece
-  front_long = omega (arith, length-append (take at bytes) piece, length-take-le at bytes within)
-
-  byte_before : x < at → get_or (written at piece bytes) x 0 ≡ get_or bytes x 0
-  byte_before lt =
-      get_or_append_left (take at bytes ++ piece) (drop (at + length piece) bytes) 0 x (omega (arith, front_long, lt))
-      ∙ get_or_append_left (take at bytes) piece 0 x (omega (arith, length-take-le at bytes within, lt))
-      ∙ get_or-take at bytes x 0 lt
-
-  byte_within : at ≤ x → x < at + length piece → get_or (written at piece bytes) x 0 ≡ get_or piece (x - at) 0
-  byte_within le lt =
-      get_or_append_left (take at bytes ++ piece) (drop (at + length piece) bytes) 0 x (omega (arith, front_long, lt))
-      ∙ get_or-append_right (take at bytes) piece at x 0 (length-take-le at bytes within) le
-
-  byte_behind : at + length piece ≤ x → get_or (written at piece bytes) x 0 ≡ get_or bytes x 0
-  byte_behind le =
-      get_or-append_right (take at bytes ++ piece) (drop (at + length piece) bytes) (at + length piece) x 0 front_long le
-      ∙ get_or-drop (at + length piece) bytes (x - (at + length piece)) 0
-      ∙ ap (λ (k : ℕ). get_or bytes k 0) (omega (arith, le))
+use Rattle.site_disk.specs.BytesLaws.{written-same, length-written, length-extent, extent-one, filled_there, length-filled, get_or-written_before, get_or-written_within, get_or-written_behind}
+use Rattle.before_images.specs.Saved.{place_of, page_of, present, laid, Lie, Within}
 
 -- the place is outside of each of these pages
 abbrev pub Outside : ℕ → List ℕ → ℕ → Type 0
@@ -74,40 +52,47 @@ laid-same pages_at (page ∷ pages) images c d long lie fits same =
 
     outside : SameOutside pages_at pages (written place piece c) (written place piece d)
     outside x lt out = ⊎_elim
-        (λ before. byte_before place piece c within_c x before
+        (λ before. get_or-written_before place piece c within_c x before
         ∙ rest x (inl before) (omega (arith, within_d, before)) out
-        ∙ sym (byte_before place piece d within_d x before))
+        ∙ sym (get_or-written_before place piece d within_d x before))
         (λ not_before. ⊎_elim
-        (λ within. byte_within place piece c within_c x not_before (omega (arith, size, within)) ∙ sym (byte_within place piece d within_d x not_before (omega (arith, size, within))))
-        (λ behind. byte_behind place piece c within_c x (omega (arith, size, behind))
+        (λ within. get_or-written_within place piece c within_c x not_before (omega (arith, size, within)) ∙ sym (get_or-written_within place piece d within_d x not_before (omega (arith, size, within))))
+        (λ behind. get_or-written_behind place piece c within_c x (omega (arith, size, behind))
         ∙ rest x (inr behind) (omega (arith, lt, length-written place piece d within_d, size, behind)) out
-        ∙ sym (byte_behind place piece d within_d x (omega (arith, size, behind))))
+        ∙ sym (get_or-written_behind place piece d within_d x (omega (arith, size, behind))))
         (cases_lt x (place + 4096)))
         (cases_lt x place)
+
+-- pages as they stand
+
+pub page-there : (pages_at page : ℕ) (bytes : List ℕ) → place_of pages_at page + 4096 ≤ length bytes → page_of pages_at page bytes ≡ extent (place_of pages_at page) 4096 bytes
+page-there pages_at page bytes there =
+    filled_there 4096 (extent (place_of pages_at page) 4096 bytes) (omega (arith, length-extent (place_of pages_at page) 4096 bytes there))
+
+pub length-page : (pages_at page : ℕ) (bytes : List ℕ) → length (page_of pages_at page bytes) ≡ 4096
+length-page pages_at page bytes =
+    omega (arith, length-filled 4096 (extent (place_of pages_at page) 4096 bytes), length-take 4096 (drop (place_of pages_at page) bytes))
+
+pub length-present : (pages_at : ℕ) (pages bytes : List ℕ) → length (present pages_at pages bytes) ≡ 4096 * length pages
+unfolding present
+length-present pages_at [] bytes = refl
+length-present pages_at (page ∷ pages) bytes =
+    omega (arith, length-append (page_of pages_at page bytes) (present pages_at pages bytes), length-page pages_at page bytes, length-present pages_at pages bytes)
 
 -- the images of pages as they stand, laid over them
 pub laid-present : (pages_at : ℕ) (pages bytes : List ℕ) → Lie pages_at pages bytes → laid pages_at pages (present pages_at pages bytes) bytes ≡ bytes
 unfolding laid present
 laid-present pages_at [] bytes lie = refl
 laid-present pages_at (page ∷ pages) bytes lie =
-    let here = extent (place_of pages_at page) 4096 bytes in
-    let size : length here ≡ 4096 = length-extent (place_of pages_at page) 4096 bytes (lie 0 (omega arith)) in
+    let here = page_of pages_at page bytes in
+    let size : length here ≡ 4096 = length-page pages_at page bytes in
+    let stands : here ≡ extent (place_of pages_at page) 4096 bytes = page-there pages_at page bytes (lie 0 (omega arith)) in
     let images = here ++ present pages_at pages bytes in
     ap (λ (l : List ℕ). laid pages_at pages l (written (place_of pages_at page) (take 4096 images) bytes)) (drop_at here (present pages_at pages bytes) 4096 size)
     ∙ ap (λ (l : List ℕ). laid pages_at pages (present pages_at pages bytes) (written (place_of pages_at page) l bytes)) (take_at here (present pages_at pages bytes) 4096 size)
-    ∙ ap (λ (l : List ℕ). laid pages_at pages (present pages_at pages bytes) l) (written-same (place_of pages_at page) here bytes (ap (λ (n : ℕ). extent (place_of pages_at page) n bytes) size))
+    ∙ ap (λ (l : List ℕ). laid pages_at pages (present pages_at pages bytes) l)
+    (written-same (place_of pages_at page) here bytes (ap (λ (n : ℕ). extent (place_of pages_at page) n bytes) size ∙ sym stands))
     ∙ laid-present pages_at pages bytes (λ k lt. lie (suc k) (omega (arith, lt)))
-
-pub length-present : (pages_at : ℕ) (pages bytes : List ℕ) → Lie pages_at pages bytes → length (present pages_at pages bytes) ≡ 4096 * length pages
-unfolding present
-length-present pages_at [] bytes lie = refl
-length-present pages_at (page ∷ pages) bytes lie =
-    omega (
-      arith,
-      length-append (extent (place_of pages_at page) 4096 bytes) (present pages_at pages bytes),
-      length-extent (place_of pages_at page) 4096 bytes (lie 0 (omega arith)),
-      length-present pages_at pages bytes (λ k lt. lie (suc k) (omega (arith, lt))),
-    )
 
 -- bytes that differ only within the pages
 pub same_outside : (pages_at limit : ℕ) (pages old new : List ℕ) → Within pages_at limit pages old new → SameOutside pages_at pages new old

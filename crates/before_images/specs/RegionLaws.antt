@@ -1,15 +1,16 @@
 -- Laws of a region: what it keeps, by its gate, its list and its images.
-use Rattle.std.specs.Prelude.{◌≡◌, ◌≢◌, ℕ, zero, suc, ◌+◌, ◌*◌, ◌^◌, ◌<◌, ◌≤◌, List, [], ◌∷◌, ◌++◌, length, take, drop, Bool, true, false, ◌&&◌, nat_eq, if◌then◌else◌, Option, Some, None, get_or, refl}
+use Rattle.std.specs.Prelude.{◌≡◌, ◌≢◌, ℕ, zero, suc, ◌+◌, ◌*◌, ◌^◌, ◌<◌, ◌≤◌, List, [], ◌∷◌, ◌++◌, length, take, drop, Bool, true, false, ◌&&◌, nat_eq, nat_le, if◌then◌else◌, Option, Some, None, is_some, get_or, refl}
 use mathlib.Core.Logic.{inl, inr}
 use mathlib.Core.Bool.{true≢false}
-use Rattle.std.proofs.Common.{arith, ap, sym, ◌∙◌, ⊎_elim, subst, length-drop, eq-eqb}
-use Rattle.std.proofs.lemmas.List.{take-take, drop-take, drop-drop, length-take}
-use Rattle.site_disk.specs.Bytes.{extent, written, Apart, Torn}
+use Rattle.std.proofs.Common.{slice_index_or, slice_set, arith, ap, sym, ◌∙◌, ⊎_elim, subst, length-append, length-drop, eq-eqb}
+use Rattle.std.proofs.lemmas.List.{take-take, take_at, take_all, drop_at, length-take}
+use Rattle.std.proofs.lemmas.Bool.Decides.{nat_tests}
+use Rattle.site_disk.specs.Bytes.{extent, written, filled, Apart, Torn}
 use Rattle.site_disk.specs.BytesLaws.{extent-extent, extent-written, length-extent, torn_whole, torn_wider, torn_again}
 use Rattle.site_disk.specs.Gates.{behind, shut, MayShut}
 use Rattle.site_disk.specs.GatesLaws.{is_shut, behind_any, behind_torn}
-use Rattle.before_images.specs.Saved.{Saved, u64_at, u32_at, count_in, pages_in, numbers, are_distinct, are_below, is_list, spelled, front_bytes, saved_by, saved_in, saved_at, place_of, present, laid, applies, put_back, restored, Lie, kept, Saves, MaySave, Drops, MayDrop, filled_region, MayFillAndOpen, Within, MayPutBack}
-use Rattle.before_images.specs.ListLaws.{is_list-short, is_list-none, length-numbers, are_below-get}
+use Rattle.before_images.specs.Saved.{Saved, u64_at, u32_at, count_in, pages_in, numbers, are_distinct, are_below, is_list, is_whole, list_len, spelled, front_bytes, saved_by, saved_in, saved_at, listed, place_of, page_of, present, region_of, laid, applies, put_back, restored, Lie, kept, Saves, MaySave, Drops, MayDrop, filled_region, MayFillAndOpen, Within, MayPutBack}
+use Rattle.before_images.specs.ListLaws.{is_list-short, is_list-none, list_len-is, list_len-not, length-numbers, are_below-get}
 use Rattle.before_images.specs.SpelledLaws.{length-spelled, upto-spelled, part-spelled, count-spelled, numbers-spelled, is_list-spelled}
 use Rattle.before_images.specs.PagesLaws.{laid-same, laid-present, length-present, same_outside}
 
@@ -25,33 +26,105 @@ saved_at-is base bytes =
     ∙ ap (λ (l : List ℕ). behind (extent base 1 bytes) (saved_by (0 ∷ l) (extent 4096 65536 region))) (extent-extent 1 4095 base 69632 bytes (omega arith))
     ∙ ap (λ (l : List ℕ). behind (extent base 1 bytes) (saved_by (0 ∷ extent (base + 1) 4095 bytes) l)) (extent-extent 4096 65536 base 69632 bytes (omega arith))
 
+abbrev pub some_saved : ℕ → ℕ → List ℕ → List ℕ → Option Saved
+some_saved upto part pages images = Some (record { upto = upto; part = part; pages = pages; images = images })
+
 behind_none : (gate : List ℕ) → behind {A = Saved} gate None ≡ None
 behind_none gate = ⊎_elim (λ none. none) (λ none. none) (behind_any {A = Saved} gate None)
 
-saved_by-not : (head images : List ℕ) → is_list head ≡ false → saved_by head images ≡ None
+saved_by-not : (head images : List ℕ) → is_whole head images ≡ false → saved_by head images ≡ None
 saved_by-not head images is =
     ap (λ (b : Bool). if b then Some (record { upto = u64_at 16 head; part = u32_at 24 head; pages = pages_in head; images = take (4096 * count_in head) images }) else None) is
 
-saved_by-is : (head images : List ℕ) → is_list head ≡ true
+pub saved_by-is : (head images : List ℕ) → is_list head ≡ true → 4096 * count_in head ≤ length images
     → saved_by head images ≡ Some (record { upto = u64_at 16 head; part = u32_at 24 head; pages = pages_in head; images = take (4096 * count_in head) images })
-saved_by-is head images is =
-    ap (λ (b : Bool). if b then Some (record { upto = u64_at 16 head; part = u32_at 24 head; pages = pages_in head; images = take (4096 * count_in head) images }) else None) is
+saved_by-is head images is long =
+    let there : nat_le (4096 * count_in head) (length images) ≡ true = grind (arith, nat_tests) in
+    ap (λ (b : Bool). if b then Some (record { upto = u64_at 16 head; part = u32_at 24 head; pages = pages_in head; images = take (4096 * count_in head) images }) else None)
+    (ap (λ (b : Bool). b && nat_le (4096 * count_in head) (length images)) is ∙ there)
 
--- where the bytes end within the list nothing is kept
-pub saved_short : (base : ℕ) (bytes : List ℕ) → length (extent base 4096 bytes) < 4096 → saved_at base bytes ≡ None
-saved_short base bytes short =
-    let head = 0 ∷ extent (base + 1) 4095 bytes in
-    let few : length head ≢ 4096 = λ long. absurd (omega (arith, long, short, length-take 4096 (drop base bytes), length-drop base bytes, length-take 4095 (drop (base + 1) bytes), length-drop (base + 1) bytes)) in
-    saved_at-is base bytes
-    ∙ ap (behind (extent base 1 bytes)) (saved_by-not head (extent (base + 4096) 65536 bytes) (is_list-short head few))
-    ∙ behind_none (extent base 1 bytes)
+-- a list outside of the grammar
+pub saved_by-no_list : (head images : List ℕ) → is_list head ≡ false → saved_by head images ≡ None
+saved_by-no_list head images is = saved_by-not head images (ap (λ (b : Bool). b && nat_le (4096 * count_in head) (length images)) is)
 
--- the parts of what is read of the list
-pub read_gate : (base : ℕ) (bytes : List ℕ) → take 1 (extent base 4096 bytes) ≡ extent base 1 bytes
-read_gate base bytes = take-take 1 4096 (drop base bytes) (omega arith)
+-- images that are cut off
+pub saved_by-cut : (head images : List ℕ) → length images < 4096 * count_in head → saved_by head images ≡ None
+saved_by-cut head images short = saved_by-not head images (by (is_list head) past)
+  where
+    past : nat_le (4096 * count_in head) (length images) ≡ false
+    past = grind (arith, nat_tests)
 
-pub read_list : (base : ℕ) (bytes : List ℕ) → drop 1 (extent base 4096 bytes) ≡ extent (base + 1) 4095 bytes
-read_list base bytes = drop-take 1 4095 (drop base bytes) ∙ ap (λ (l : List ℕ). take 4095 l) (drop-drop 1 base bytes)
+    by : (a : Bool) → nat_le (4096 * count_in head) (length images) ≡ false → (a && nat_le (4096 * count_in head) (length images)) ≡ false
+    by true is = is
+    by false is = refl
+
+-- a region that ends within its list keeps nothing
+pub saved_short : (region : List ℕ) → length region < 4096 → saved_in region ≡ None
+saved_short region short =
+    let head = 0 ∷ extent 1 4095 region in
+    let few : length head ≢ 4096 = λ long. absurd (omega (arith, long, short, length-take 4095 (drop 1 region), length-drop 1 region)) in
+    ap (behind (extent 0 1 region)) (saved_by-no_list head (extent 4096 65536 region) (is_list-short head few)) ∙ behind_none (extent 0 1 region)
+
+-- what is read of a list
+
+-- nothing is kept where the list isn't in the grammar
+pub unlisted : (head images : List ℕ) → list_len head ≡ None → saved_by head images ≡ None
+unlisted head images none = by (is_list head) refl
+  where
+    by : (b : Bool) → is_list head ≡ b → saved_by head images ≡ None
+    by true is = absurd (some_none (sym (list_len-is head is) ∙ none))
+      where
+        some_none : Some (count_in head) ≡ None → ⊥
+        some_none e = true≢false (ap is_some e)
+    by false is = saved_by-no_list head images is
+
+-- a list in the grammar has this many pages
+record Counted (count : ℕ) (head : List ℕ) : Type 0 where
+  list : is_list head ≡ true
+  counts : count ≡ count_in head
+
+counted : (count : ℕ) (head : List ℕ) → list_len head ≡ Some count → Counted count head
+counted count head some = by (is_list head) refl
+  where
+    by : (b : Bool) → is_list head ≡ b → Counted count head
+    by true is = record { list = is; counts = ap (λ (o : Option ℕ). get_some 0 o) (sym some ∙ list_len-is head is) }
+      where
+        get_some : ℕ → Option ℕ → ℕ
+        get_some d None = d
+        get_some d (Some n) = n
+    by false is = absurd (true≢false (ap is_some (sym some ∙ list_len-not head is)))
+
+-- a list has a page
+pub listed_some : (count : ℕ) (head : List ℕ) → list_len head ≡ Some count → 1 ≤ count
+listed_some count head some = by count (counted count head some)
+  where
+    by : (n : ℕ) → Counted n head → 1 ≤ n
+    by zero it = absurd (true≢false (sym it.list ∙ is_list-none head (sym it.counts)))
+    by (suc n) it = omega arith
+
+-- a region whose images are cut off
+pub listed_cut : (count : ℕ) (region : List ℕ) → list_len (take 4096 region) ≡ Some count → length region < 4096 * (count + 1) → saved_by (take 4096 region) (extent 4096 65536 region) ≡ None
+listed_cut count region some short =
+    let it = counted count (take 4096 region) some in
+    saved_by-cut (take 4096 region) (extent 4096 65536 region) (omega (arith, it.counts, listed_some count (take 4096 region) some, short, length-take 65536 (drop 4096 region), length-drop 4096 region))
+
+-- a whole one
+pub listed_whole : (count : ℕ) (region : List ℕ) → list_len (take 4096 region) ≡ Some count → count ≤ 16 → 4096 * (count + 1) ≤ length region
+    → saved_by (take 4096 region) (extent 4096 65536 region) ≡ Some (listed (u64_at 16 (take 4096 region)) (u32_at 24 (take 4096 region)) count region)
+listed_whole count region some few whole =
+    let head = take 4096 region in
+    let it = counted count head some in
+    saved_by-is head (extent 4096 65536 region) it.list (omega (arith, it.counts, few, whole, length-take 65536 (drop 4096 region), length-drop 4096 region))
+    ∙ ap (λ (n : ℕ). some_saved (u64_at 16 head) (u32_at 24 head) (numbers 0 n head) (take (4096 * n) (extent 4096 65536 region))) (sym it.counts)
+    ∙ ap (some_saved (u64_at 16 head) (u32_at 24 head) (numbers 0 count head)) (take-take (4096 * count) 65536 (drop 4096 region) (omega (arith, few)))
+
+-- the gate's byte
+
+pub open_keeps : (region : List ℕ) → (slice_index_or region 0 0 ≡ 0 → ⊥) → 4096 ≤ length region
+    → saved_in region ≡ saved_by (take 4096 (slice_set region 0 0)) (extent 4096 65536 (slice_set region 0 0))
+open_keeps [] some long = absurd (omega (arith, long))
+open_keeps (zero ∷ region) some long = absurd (some refl)
+open_keeps (suc b ∷ region) some long = refl
 
 -- the gate
 
@@ -92,11 +165,8 @@ present-same : (pages_at : ℕ) (pages c d : List ℕ) → ((k : ℕ) → k < le
 unfolding present
 present-same pages_at [] c d same = refl
 present-same pages_at (page ∷ pages) c d same =
-    ap (λ (l : List ℕ). l ++ present pages_at pages c) (same 0 (omega arith))
-    ∙ ap (λ (l : List ℕ). extent (place_of pages_at page) 4096 d ++ l) (present-same pages_at pages c d (λ k lt. same (suc k) (omega (arith, lt))))
-
-abbrev some_saved : ℕ → ℕ → List ℕ → List ℕ → Option Saved
-some_saved upto part pages images = Some (record { upto = upto; part = part; pages = pages; images = images })
+    ap (λ (l : List ℕ). filled 4096 l ++ present pages_at pages c) (same 0 (omega arith))
+    ∙ ap (λ (l : List ℕ). page_of pages_at page d ++ l) (present-same pages_at pages c d (λ k lt. same (suc k) (omega (arith, lt))))
 
 same_saved : (a b c d : ℕ) (pages other images more : List ℕ) → a ≡ b → c ≡ d → pages ≡ other → images ≡ more → some_saved a c pages images ≡ some_saved b d other more
 same_saved a b c d pages other images more ab cd po im =
@@ -114,89 +184,107 @@ pub record Fits (upto part : ℕ) (pages : List ℕ) : Type 0 where
   pub fits : (k : ℕ) → get_or pages k 0 < 2 ^ 32
   pub distinct : are_distinct pages ≡ true
 
-module _ (base pages_at upto part : ℕ) (pages old : List ℕ) (fit : Fits upto part pages) (apart : base + 69632 ≤ pages_at) (lie : Lie pages_at pages old) where
+module _ (base pages_at upto part : ℕ) (pages old : List ℕ) (fit : Fits upto part pages) (within : base + 69632 ≤ length old) where
   abbrev size : ℕ
   size = 4096 * length pages
-
-  abbrev closed : List ℕ
-  closed = shut base old
 
   abbrev head : List ℕ
   head = spelled upto part pages
 
   abbrev images : List ℕ
-  images = present pages_at pages closed
+  images = present pages_at pages old
 
-  abbrev with_images : List ℕ
-  with_images = written (base + 4096) images closed
+  abbrev region : List ℕ
+  region = region_of pages_at upto part pages old
 
-  abbrev filled : List ℕ
-  filled = filled_region base pages_at upto part pages closed
+  abbrev piece : List ℕ
+  piece = drop 1 region
 
-  within : base + 69632 + 4096 ≤ length old
-  within = omega (arith, lie 0 (omega (arith, fit.some)), apart)
+  abbrev filled_now : List ℕ
+  filled_now = filled_region base region old
 
-  closing : Torn base 1 old closed
+  closing : Torn base 1 old (shut base old)
   closing = torn_whole base (0 ∷ []) old (omega (arith, within))
 
-  lie_closed : Lie pages_at pages closed
-  lie_closed k lt = omega (arith, lie k lt, closing.no_shorter)
+  head_size : length head ≡ 4096
+  head_size = length-spelled upto part pages fit.upto_fits fit.part_fits fit.some fit.few fit.fits fit.distinct
 
   images_size : length images ≡ size
-  images_size = length-present pages_at pages closed lie_closed
+  images_size = length-present pages_at pages old
 
-  list_size : length (drop 1 head) ≡ 4095
-  list_size = omega (arith, length-drop 1 head, length-spelled upto part pages fit.upto_fits fit.part_fits fit.some fit.few fit.fits fit.distinct)
+  region_size : length region ≡ 4096 + size
+  region_size = omega (arith, length-append head images, head_size, images_size)
 
-  imaging : Torn (base + 4096) size closed with_images
-  imaging = subst (λ (n : ℕ). Torn (base + 4096) n closed with_images) images_size (torn_whole (base + 4096) images closed (omega (arith, within, closing.no_shorter)))
+  piece_size : length piece ≡ 4095 + size
+  piece_size = omega (arith, length-drop 1 region, region_size)
 
-  listing : Torn (base + 1) 4095 with_images filled
-  listing = subst (λ (n : ℕ). Torn (base + 1) n with_images filled) list_size (torn_whole (base + 1) (drop 1 head) with_images (omega (arith, within, closing.no_shorter, imaging.no_shorter)))
+  there : base + 1 ≤ length (shut base old)
+  there = omega (arith, within, closing.no_shorter)
 
-  in_region : Torn base 69632 old filled
+  filling : Torn (base + 1) (length piece) (shut base old) filled_now
+  filling = torn_whole (base + 1) piece (shut base old) there
+
+  in_region : Torn base 69632 old filled_now
   in_region =
-      torn_again base 69632 old closed filled (region_of_gate base old closed closing)
-      (torn_again base 69632 closed with_images filled
-      (torn_wider (base + 4096) size base 69632 closed with_images (omega arith) (omega (arith, fit.few)) imaging)
-      (torn_wider (base + 1) 4095 base 69632 with_images filled (omega arith) (omega arith) listing))
+      torn_again base 69632 old (shut base old) filled_now (region_of_gate base old (shut base old) closing)
+      (torn_wider (base + 1) (length piece) base 69632 (shut base old) filled_now (omega arith) (omega (arith, piece_size, fit.few)) filling)
 
-  list_stands : extent (base + 1) 4095 filled ≡ drop 1 head
-  list_stands = ap (λ (n : ℕ). extent (base + 1) n filled) (sym list_size) ∙ extent-written (base + 1) (drop 1 head) with_images (omega (arith, within, closing.no_shorter, imaging.no_shorter))
-
-  images_stand : extent (base + 4096) size filled ≡ present pages_at pages old
-  images_stand =
-      listing.elsewhere (base + 4096) size (inr (omega arith))
-      ∙ ap (λ (n : ℕ). extent (base + 4096) n with_images) (sym images_size)
-      ∙ extent-written (base + 4096) images closed (omega (arith, within, closing.no_shorter))
-      ∙ present-same pages_at pages closed old (λ k lt. closing.elsewhere (place_of pages_at (get_or pages k 0)) 4096 (inr (omega (arith, apart))))
+  -- what stands in the region is a part of the piece
+  part_stands : (at n : ℕ) → at + n ≤ 4095 + size → extent (base + 1 + at) n filled_now ≡ extent at n piece
+  part_stands at n le =
+      sym (extent-extent at n (base + 1) (length piece) filled_now (omega (arith, piece_size, le)))
+      ∙ ap (λ (l : List ℕ). extent at n l) (extent-written (base + 1) piece (shut base old) there)
 
   head_is : 0 ∷ drop 1 head ≡ head
   unfolding front_bytes
   head_is = refl
 
-  saved_filled : saved_by (0 ∷ extent (base + 1) 4095 filled) (extent (base + 4096) 65536 filled) ≡ Some (kept pages_at upto part pages old)
+  piece_is : piece ≡ drop 1 head ++ images
+  unfolding front_bytes
+  piece_is = refl
+
+  list_size : length (drop 1 head) ≡ 4095
+  list_size = omega (arith, length-drop 1 head, head_size)
+
+  list_stands : extent (base + 1) 4095 filled_now ≡ drop 1 head
+  list_stands =
+      ap (λ (k : ℕ). extent k 4095 filled_now) (omega arith)
+      ∙ part_stands 0 4095 (omega arith)
+      ∙ ap (λ (l : List ℕ). take 4095 l) piece_is
+      ∙ take_at (drop 1 head) images 4095 list_size
+
+  images_stand : extent (base + 4096) size filled_now ≡ images
+  images_stand =
+      ap (λ (k : ℕ). extent k size filled_now) (omega arith)
+      ∙ part_stands 4095 size (omega arith)
+      ∙ ap (λ (l : List ℕ). extent 4095 size l) piece_is
+      ∙ ap (λ (l : List ℕ). take size l) (drop_at (drop 1 head) images 4095 list_size)
+      ∙ take_all size images (omega (arith, images_size))
+
+  saved_filled : saved_by (0 ∷ extent (base + 1) 4095 filled_now) (extent (base + 4096) 65536 filled_now) ≡ Some (kept pages_at upto part pages old)
   saved_filled =
-      let area = extent (base + 4096) 65536 filled in
+      let area = extent (base + 4096) 65536 filled_now in
       let count = count-spelled upto part pages fit.upto_fits fit.part_fits fit.some fit.few fit.fits fit.distinct in
+      let long : 4096 * count_in head ≤ length area =
+      omega (arith, count, fit.few, within, in_region.no_shorter, length-extent (base + 4096) 65536 filled_now (omega (arith, within, in_region.no_shorter))) in
       ap (λ (l : List ℕ). saved_by (0 ∷ l) area) list_stands
       ∙ ap (λ (l : List ℕ). saved_by l area) head_is
-      ∙ saved_by-is head area (is_list-spelled upto part pages fit.upto_fits fit.part_fits fit.some fit.few fit.fits fit.distinct)
-      ∙ same_saved (u64_at 16 head) upto (u32_at 24 head) part (pages_in head) pages (take (4096 * count_in head) area) (present pages_at pages old)
+      ∙ saved_by-is head area (is_list-spelled upto part pages fit.upto_fits fit.part_fits fit.some fit.few fit.fits fit.distinct) long
+      ∙ same_saved (u64_at 16 head) upto (u32_at 24 head) part (pages_in head) pages (take (4096 * count_in head) area) images
       (upto-spelled upto part pages fit.upto_fits fit.part_fits fit.some fit.few fit.fits fit.distinct)
       (part-spelled upto part pages fit.upto_fits fit.part_fits fit.some fit.few fit.fits fit.distinct)
       (ap (λ (n : ℕ). numbers 0 n head) count ∙ numbers-spelled upto part pages fit.upto_fits fit.part_fits fit.some fit.few fit.fits fit.distinct)
-      (ap (λ (n : ℕ). take (4096 * n) area) count ∙ take-take size 65536 (drop (base + 4096) filled) (omega (arith, fit.few)) ∙ images_stand)
+      (ap (λ (n : ℕ). take (4096 * n) area) count ∙ take-take size 65536 (drop (base + 4096) filled_now) (omega (arith, fit.few)) ∙ images_stand)
 
   -- whatever the gate then
-  module _ (new : List ℕ) (torn : Torn base 1 filled new) where
+  module _ (new : List ℕ) (torn : Torn base 1 filled_now new) where
     as_new : saved_at base new ≡ behind (extent base 1 new) (Some (kept pages_at upto part pages old))
-    as_new = saved_at-is base new ∙ ap (behind (extent base 1 new)) (rest_by_gate base filled new torn ∙ saved_filled)
+    as_new = saved_at-is base new ∙ ap (behind (extent base 1 new)) (rest_by_gate base filled_now new torn ∙ saved_filled)
 
     all_in_region : Torn base 69632 old new
-    all_in_region = torn_again base 69632 old filled new in_region (region_of_gate base filled new torn)
+    all_in_region = torn_again base 69632 old filled_now new in_region (region_of_gate base filled_now new torn)
 
-  by_opening : (new : List ℕ) → Torn base 1 filled new → MaySave base pages_at upto part pages old new
+  by_opening : (new : List ℕ) → Torn base 1 filled_now new → MaySave base pages_at upto part pages old new
   by_opening new torn = record {
     saved = ⊎_elim (λ none. inr (inl (as_new new torn ∙ none))) (λ it. inr (inr (as_new new torn ∙ it))) (behind_any (extent base 1 new) (Some (kept pages_at upto part pages old)));
     elsewhere = (all_in_region new torn).elsewhere;
@@ -204,18 +292,18 @@ module _ (base pages_at upto part : ℕ) (pages old : List ℕ) (fit : Fits upto
   }
 
   -- what it leaves when it is done
-  pub saves : (new : List ℕ) → new ≡ written base (1 ∷ []) filled → Saves base pages_at upto part pages old new
+  pub saves : (new : List ℕ) → new ≡ written base (1 ∷ []) filled_now → Saves base pages_at upto part pages old new
   saves new done =
-      let fits : base ≤ length filled = omega (arith, within, in_region.no_shorter) in
-      let torn : Torn base 1 filled new = subst (λ (l : List ℕ). Torn base 1 filled l) (sym done) (torn_whole base (1 ∷ []) filled fits) in
-      let gate : extent base 1 new ≡ 1 ∷ [] = ap (λ (l : List ℕ). extent base 1 l) done ∙ extent-written base (1 ∷ []) filled fits in record {
+      let fits : base ≤ length filled_now = omega (arith, within, in_region.no_shorter) in
+      let torn : Torn base 1 filled_now new = subst (λ (l : List ℕ). Torn base 1 filled_now l) (sym done) (torn_whole base (1 ∷ []) filled_now fits) in
+      let gate : extent base 1 new ≡ 1 ∷ [] = ap (λ (l : List ℕ). extent base 1 l) done ∙ extent-written base (1 ∷ []) filled_now fits in record {
         saved = as_new new torn ∙ ap (λ (g : List ℕ). behind g (Some (kept pages_at upto part pages old))) gate;
         elsewhere = (all_in_region new torn).elsewhere;
         no_shorter = (all_in_region new torn).no_shorter;
       }
 
 -- what a stop within the saving leaves, where the gate's byte is there
-module _ (base pages_at upto part : ℕ) (pages old : List ℕ) (fit : Fits upto part pages) (apart : base + 69632 ≤ pages_at) (one : length (extent base 1 old) ≡ 1) where
+module _ (base pages_at upto part : ℕ) (pages old : List ℕ) (one : length (extent base 1 old) ≡ 1) where
   gate_there : base ≤ length old
   gate_there = omega (arith, one, length-take 1 (drop base old), length-drop base old)
 
@@ -238,14 +326,15 @@ module _ (base pages_at upto part : ℕ) (pages old : List ℕ) (fit : Fits upto
         no_shorter = drops.no_shorter;
       }
 
-  pub may_save : (new : List ℕ) → MayFillAndOpen base pages_at upto part pages old new → MaySave base pages_at upto part pages old new
-  may_save new may = ⊎_elim
+  pub may_save : (bytes new : List ℕ) → Fits upto part pages → base + 69632 ≤ length bytes → MayFillAndOpen base (region_of pages_at upto part pages bytes) bytes old new
+      → MaySave base pages_at upto part pages old new
+  may_save bytes new fit within may = ⊎_elim
       (λ first. ⊎_elim (λ shuts. by_closing new shuts) (λ torn. by_filling new torn) first)
-      (λ opens. by_opening base pages_at upto part pages old fit apart opens.0 new opens.1) may
+      (λ opens. subst (λ (l : List ℕ). MaySave base pages_at upto part pages l new) (sym opens.0) (by_opening base pages_at upto part pages bytes fit within new opens.1)) may
 
 -- putting back
 
-restored-put_back : (base pages_at limit upto part : ℕ) (bytes : List ℕ) → restored base pages_at limit upto part bytes ≡ put_back pages_at limit upto part (saved_at base bytes) bytes
+pub restored-put_back : (base pages_at limit upto part : ℕ) (bytes : List ℕ) → restored base pages_at limit upto part bytes ≡ put_back pages_at limit upto part (saved_at base bytes) bytes
 unfolding restored
 restored-put_back base pages_at limit upto part bytes = refl
 
@@ -258,31 +347,19 @@ module _ (base pages_at limit upto part : ℕ) (bytes : List ℕ) where
       by None is = refl
       by (Some it) is = ap (λ (b : Bool). if b then laid pages_at it.pages it.images bytes else bytes) is
 
-  -- what applies is the list read, with the images behind it
-  module _ (head : List ℕ) (count : ℕ) (is : applies limit upto part (saved_at base bytes) ≡ true) (read : head ≡ 0 ∷ extent (base + 1) 4095 bytes) (grammar : is_list head ≡ true) (counts : count ≡ count_in head) where
-    abbrev area : List ℕ
-    area = extent (base + 4096) 65536 bytes
+  -- what applies is laid over the pages
+  pub restored_is : (it : Saved) → saved_at base bytes ≡ Some it → applies limit upto part (Some it) ≡ true → restored base pages_at limit upto part bytes ≡ laid pages_at it.pages it.images bytes
+  restored_is it keeps is =
+      restored-put_back base pages_at limit upto part bytes
+      ∙ ap (λ (k : Option Saved). put_back pages_at limit upto part k bytes) keeps
+      ∙ ap (λ (b : Bool). if b then laid pages_at it.pages it.images bytes else bytes) is
 
-    abbrev it : Option Saved
-    it = some_saved (u64_at 16 head) (u32_at 24 head) (pages_in head) (take (4096 * count_in head) area)
-
-    there : saved_by (0 ∷ extent (base + 1) 4095 bytes) area ≡ it
-    there = ap (λ (l : List ℕ). saved_by l area) (sym read) ∙ saved_by-is head area grammar
-
-    pub is_kept : saved_at base bytes ≡ it
-    is_kept = ⊎_elim
-        (λ none. absurd (true≢false (sym is ∙ ap (applies limit upto part) (saved_at-is base bytes ∙ none))))
-        (λ all. saved_at-is base bytes ∙ all ∙ there)
-        (behind_any (extent base 1 bytes) (saved_by (0 ∷ extent (base + 1) 4095 bytes) area))
-
-    pub restored_is : count ≤ 16 → restored base pages_at limit upto part bytes ≡ laid pages_at (numbers 0 count head) (extent (base + 4096) (4096 * count) bytes) bytes
-    restored_is few =
-        let applied : applies limit upto part it ≡ true = ap (applies limit upto part) (sym is_kept) ∙ is in
-        restored-put_back base pages_at limit upto part bytes
-        ∙ ap (λ (k : Option Saved). put_back pages_at limit upto part k bytes) is_kept
-        ∙ ap (λ (b : Bool). if b then laid pages_at (pages_in head) (take (4096 * count_in head) area) bytes else bytes) applied
-        ∙ ap (λ (n : ℕ). laid pages_at (numbers 0 n head) (take (4096 * n) area) bytes) (sym counts)
-        ∙ ap (λ (l : List ℕ). laid pages_at (numbers 0 count head) l bytes) (take-take (4096 * count) 65536 (drop (base + 4096) bytes) (omega (arith, few)))
+-- what is kept for a place applies to it
+pub applies_own : (limit upto part : ℕ) (pages before : List ℕ) → are_below limit pages ≡ true → applies limit upto part (some_saved upto part pages before) ≡ true
+applies_own limit upto part pages before below =
+    ap (λ (b : Bool). b && nat_eq part part && are_below limit pages) (eq-eqb upto upto refl)
+    ∙ ap (λ (b : Bool). b && are_below limit pages) (eq-eqb part part refl)
+    ∙ below
 
 -- a change within pages behind the region changes nothing in it
 module _ (base pages_at limit : ℕ) (pages old new : List ℕ) (apart : base + 69632 ≤ pages_at) (within : Within pages_at limit pages old new) where
@@ -306,28 +383,17 @@ module _ (base pages_at limit : ℕ) (pages old new : List ℕ) (apart : base + 
     apart_below from len out = within.elsewhere from len (λ k lt. ⊎_elim (λ before. inl (omega (arith, before))) (λ after. inr (omega (arith, after, are_below-get limit k pages below lt))) out)
 
 -- what a stop within the putting back leaves
-module _ (base pages_at limit upto part : ℕ) (head : List ℕ) (count : ℕ) (apart : base + 69632 ≤ pages_at) (few : count ≤ 16) (grammar : is_list head ≡ true) (counts : count ≡ count_in head)
-    (below : are_below limit (numbers 0 count head) ≡ true) (old : List ℕ) (reaches : place_of pages_at limit ≤ length old)
-    (is : applies limit upto part (saved_at base old) ≡ true) (read : head ≡ 0 ∷ extent (base + 1) 4095 old) where
-  abbrev pages : List ℕ
-  pages = numbers 0 count head
-
-  pub may_put_back : (new : List ℕ) → Within pages_at limit pages old new → MayPutBack base pages_at limit upto part old new
-  may_put_back new within =
-      let is_new : applies limit upto part (saved_at base new) ≡ true = ap (applies limit upto part) (saved_stays base pages_at limit pages old new apart within) ∙ is in
-      let read_new : head ≡ 0 ∷ extent (base + 1) 4095 new = read ∙ ap (λ (l : List ℕ). 0 ∷ l) (sym (within.elsewhere (base + 1) 4095 (λ k lt. inl (omega (arith, apart))))) in
-      let images = extent (base + 4096) (4096 * count) old in
-      let same : laid pages_at pages images new ≡ laid pages_at pages images old =
-      laid-same pages_at pages images new old (same_length base pages_at limit pages old new apart within reaches) (lie_below base pages_at limit pages old new apart within below reaches)
-      (omega (arith, length-numbers 0 count head, length-extent (base + 4096) (4096 * count) old (omega (arith, apart, few, reaches)))) (same_outside pages_at limit pages old new within) in
-      record {
-        back = restored_is base pages_at limit upto part new head count is_new read_new grammar counts few
-            ∙ ap (λ (l : List ℕ). laid pages_at pages l new) (images_stay base pages_at limit pages old new apart within (4096 * count) (omega (arith, few)))
-            ∙ same
-            ∙ sym (restored_is base pages_at limit upto part old head count is read grammar counts few);
-        elsewhere = apart_below base pages_at limit pages old new apart within below;
-        no_shorter = within.no_shorter;
-      }
+module _ (base pages_at limit upto part : ℕ) (it : Saved) (apart : base + 69632 ≤ pages_at) (below : are_below limit it.pages ≡ true) (long : 4096 * length it.pages ≤ length it.images)
+    (is : applies limit upto part (Some it) ≡ true) (old : List ℕ) (reaches : place_of pages_at limit ≤ length old) (keeps : saved_at base old ≡ Some it) where
+  pub may_put_back : (new : List ℕ) → Within pages_at limit it.pages old new → MayPutBack base pages_at limit upto part old new
+  may_put_back new within = record {
+    back = restored_is base pages_at limit upto part new it (saved_stays base pages_at limit it.pages old new apart within ∙ keeps) is
+        ∙ laid-same pages_at it.pages it.images new old (same_length base pages_at limit it.pages old new apart within reaches) (lie_below base pages_at limit it.pages old new apart within below reaches)
+        long (same_outside pages_at limit it.pages old new within)
+        ∙ sym (restored_is base pages_at limit upto part old it keeps is);
+    elsewhere = apart_below base pages_at limit it.pages old new apart within below;
+    no_shorter = within.no_shorter;
+  }
 
 pub put_back_same : (base pages_at limit upto part : ℕ) (bytes : List ℕ) → MayPutBack base pages_at limit upto part bytes bytes
 put_back_same base pages_at limit upto part bytes = record { back = refl; elsewhere = λ from len out. refl; no_shorter = omega arith }
@@ -335,9 +401,6 @@ put_back_same base pages_at limit upto part bytes = record { back = refl; elsewh
 -- saved pages come back
 module _ (base pages_at limit upto part : ℕ) (pages old mid new : List ℕ) (apart : base + 69632 ≤ pages_at) (below : are_below limit pages ≡ true) (reaches : place_of pages_at limit ≤ length old)
     (saves : Saves base pages_at upto part pages old mid) (within : Within pages_at limit pages mid new) where
-  lie_old : Lie pages_at pages old
-  lie_old k lt = omega (arith, are_below-get limit k pages below lt, reaches)
-
   reaches_mid : place_of pages_at limit ≤ length mid
   reaches_mid = omega (arith, reaches, saves.no_shorter)
 
@@ -347,36 +410,19 @@ module _ (base pages_at limit upto part : ℕ) (pages old mid new : List ℕ) (a
   is_saved : saved_at base new ≡ Some (kept pages_at upto part pages old)
   is_saved = saved_stays base pages_at limit pages mid new apart within ∙ saves.saved
 
-  all_apply : applies limit upto part (Some (kept pages_at upto part pages old)) ≡ true
-  all_apply =
-      ap (λ (b : Bool). b && nat_eq part part && are_below limit pages) (eq-eqb upto upto refl)
-      ∙ ap (λ (b : Bool). b && are_below limit pages) (eq-eqb part part refl)
-      ∙ below
-
   pub comes_back : restored base pages_at limit upto part new ≡ mid
   comes_back =
-      restored-put_back base pages_at limit upto part new
-      ∙ ap (λ (k : Option Saved). put_back pages_at limit upto part k new) is_saved
-      ∙ ap (λ (b : Bool). if b then laid pages_at pages (present pages_at pages old) new else new) all_apply
+      restored_is base pages_at limit upto part new (kept pages_at upto part pages old) is_saved (applies_own limit upto part pages (present pages_at pages old) below)
       ∙ ap (λ (l : List ℕ). laid pages_at pages l new) stood
       ∙ laid-same pages_at pages (present pages_at pages mid) new mid (same_length base pages_at limit pages mid new apart within reaches_mid)
       (lie_below base pages_at limit pages mid new apart within below reaches_mid)
-      (omega (arith, length-present pages_at pages mid (lie_below base pages_at limit pages mid new apart within below reaches_mid)))
+      (omega (arith, length-present pages_at pages mid))
       (same_outside pages_at limit pages mid new within)
       ∙ laid-present pages_at pages mid (lie_below base pages_at limit pages mid new apart within below reaches_mid)
 
--- the list is decided by the region
-pub list_of_region : (base : ℕ) (c d : List ℕ) → extent base 69632 c ≡ extent base 69632 d → extent (base + 1) 4095 c ≡ extent (base + 1) 4095 d
-list_of_region base c d same =
-    sym (extent-extent 1 4095 base 69632 c (omega arith)) ∙ ap (λ (l : List ℕ). extent 1 4095 l) same ∙ extent-extent 1 4095 base 69632 d (omega arith)
-
--- a list in the grammar has a page, so that a limit above all of its pages isn't 0
-pub limit_some : (limit count : ℕ) (head : List ℕ) → is_list head ≡ true → count ≡ count_in head → are_below limit (numbers 0 count head) ≡ true → 0 < limit
-limit_some limit count head grammar counts below = by (count_in head) refl
-  where
-    by : (n : ℕ) → count_in head ≡ n → 0 < limit
-    by zero none = absurd (true≢false (sym grammar ∙ is_list-none head none))
-    by (suc n) some = omega (arith, are_below-get limit 0 (numbers 0 count head) below (omega (arith, length-numbers 0 count head, counts, some)))
+-- a list has a page, so that a limit above all of its pages isn't 0
+pub limit_some : (limit count : ℕ) (head : List ℕ) → 1 ≤ count → are_below limit (numbers 0 count head) ≡ true → 0 < limit
+limit_some limit count head some below = omega (arith, are_below-get limit 0 (numbers 0 count head) below (omega (arith, length-numbers 0 count head, some)))
 
 -- a closed region keeps nothing
 pub drops : (base : ℕ) (old new : List ℕ) → base ≤ length old → new ≡ shut base old → Drops base old new

@@ -4,7 +4,7 @@
 -- from 0, at 4,096 × (i + 1).
 use Rattle.std.specs.Prelude.{◌≡◌, ◌⊎◌, ℕ, zero, suc, ◌+◌, ◌-◌, ◌*◌, ◌<◌, ◌≤◌, max, List, [], ◌∷◌, ◌++◌, length, take, drop, replicate, Bool, true, false, ◌&&◌, ◌||◌, not, if◌then◌else◌, nat_eq, nat_le, nat_lt, Option, None, Some, get_or}
 use Rattle.std.specs.Int.{w32, w64, to_be_bytes, from_be_bytes}
-use Rattle.site_disk.specs.Bytes.{extent, written, Apart, Torn}
+use Rattle.site_disk.specs.Bytes.{extent, written, filled, Apart, Torn}
 use Rattle.site_disk.specs.Gates.{behind, shut, MayFill}
 
 -- what is kept: the place of the work before its step, the pages, and their images one behind another
@@ -77,15 +77,23 @@ front_bytes upto part count = replicate 16 0 ++ to_be_bytes w64 upto ++ to_be_by
 abbrev pub spelled : ℕ → ℕ → List ℕ → List ℕ
 spelled upto part pages = front_bytes upto part (length pages) ++ page_bytes pages ++ replicate (4064 - 4 * length pages) 0
 
+-- the list is in the grammar, and none of its images is cut off
+abbrev pub is_whole : List ℕ → List ℕ → Bool
+is_whole head images = is_list head && nat_le (4096 * count_in head) (length images)
+
 -- what a list and the images behind it say
 abbrev pub saved_by : List ℕ → List ℕ → Option Saved
 saved_by head images =
-    if is_list head then Some (record { upto = u64_at 16 head; part = u32_at 24 head; pages = pages_in head; images = take (4096 * count_in head) images })
+    if is_whole head images then Some (record { upto = u64_at 16 head; part = u32_at 24 head; pages = pages_in head; images = take (4096 * count_in head) images })
     else None
 
--- what a region keeps: nothing where its gate is closed or its list isn't in the grammar
+-- What a region keeps: nothing where its gate is closed, its list isn't in the grammar, or the disk ends within the images.
 abbrev pub saved_in : List ℕ → Option Saved
 saved_in region = behind (extent 0 1 region) (saved_by (0 ∷ extent 1 4095 region) (extent 4096 65536 region))
+
+-- so many pages for a place, by the region's bytes
+abbrev pub listed : ℕ → ℕ → ℕ → List ℕ → Saved
+listed upto part count region = record { upto = upto; part = part; pages = numbers 0 count (take 4096 region); images = extent 4096 (4096 * count) region }
 
 -- and the region at a place of a disk
 abbrev pub saved_at : ℕ → List ℕ → Option Saved
@@ -97,10 +105,14 @@ saved_at base bytes = saved_in (extent base 69632 bytes)
 abbrev pub place_of : ℕ → ℕ → ℕ
 place_of pages_at page = pages_at + 4096 * page
 
--- the bytes of some pages, one behind another
+-- a page as it stands, with zero bytes for those that the disk doesn't have
+abbrev pub page_of : ℕ → ℕ → List ℕ → List ℕ
+page_of pages_at page bytes = filled 4096 (extent (place_of pages_at page) 4096 bytes)
+
+-- some pages as they stand, one behind another
 unfoldable pub present : ℕ → List ℕ → List ℕ → List ℕ
 present pages_at [] bytes = []
-present pages_at (page ∷ pages) bytes = extent (place_of pages_at page) 4096 bytes ++ present pages_at pages bytes
+present pages_at (page ∷ pages) bytes = page_of pages_at page bytes ++ present pages_at pages bytes
 
 -- the bytes with images laid over the pages
 unfoldable pub laid : ℕ → List ℕ → List ℕ → List ℕ → List ℕ
@@ -148,15 +160,17 @@ pub record MaySave (base pages_at upto part : ℕ) (pages old new : List ℕ) : 
   pub elsewhere : Elsewhere base old new
   pub no_shorter : length old ≤ length new
 
--- the images and then the list, behind a closed gate
-abbrev pub filled_region : ℕ → ℕ → ℕ → ℕ → List ℕ → List ℕ → List ℕ
-filled_region base pages_at upto part pages bytes =
-    written (base + 1) (drop 1 (spelled upto part pages)) (written (base + 4096) (present pages_at pages bytes) bytes)
+-- a region's list and images as they are written
+abbrev pub region_of : ℕ → ℕ → ℕ → List ℕ → List ℕ → List ℕ
+region_of pages_at upto part pages bytes = spelled upto part pages ++ present pages_at pages bytes
 
--- what a stop within the saving leaves of the region: its gate, then all behind it, then its gate
-abbrev pub MayFillAndOpen : ℕ → ℕ → ℕ → ℕ → List ℕ → List ℕ → List ℕ → Type 0
-MayFillAndOpen base pages_at upto part pages old new =
-    MayFill base (base + 1) 69631 old new ⊎ (Lie pages_at pages old × Torn base 1 (filled_region base pages_at upto part pages (shut base old)) new)
+-- the bytes with a region written behind its closed gate
+abbrev pub filled_region : ℕ → List ℕ → List ℕ → List ℕ
+filled_region base region bytes = written (base + 1) (drop 1 region) (shut base bytes)
+
+-- What a stop within the saving leaves of the region: its gate, then all behind it, then its gate. By the last of them the disk is known.
+abbrev pub MayFillAndOpen : ℕ → List ℕ → List ℕ → List ℕ → List ℕ → Type 0
+MayFillAndOpen base region bytes old new = MayFill base (base + 1) 69631 old new ⊎ ((old ≡ bytes) × Torn base 1 (filled_region base region bytes) new)
 
 -- it keeps what it kept or nothing
 pub record MayDrop (base : ℕ) (old new : List ℕ) : Type 0 where
@@ -192,8 +206,33 @@ pub record Drops (base : ℕ) (old new : List ℕ) : Type 0 where
 pub record ImagesView : Type 0 where
   pub base : ℕ
 
+-- laws
+
 -- saved pages come back: once they are saved, whatever these pages hold since, putting back gives the bytes as they were then
 abbrev pub ComesBack : ℕ → ℕ → ℕ → ℕ → ℕ → List ℕ → List ℕ → List ℕ → List ℕ → Type 0
 ComesBack base pages_at limit upto part pages old saved since =
     base + 69632 ≤ pages_at → are_below limit pages ≡ true → place_of pages_at limit ≤ length old → Saves base pages_at upto part pages old saved → Within pages_at limit pages saved since
     → restored base pages_at limit upto part since ≡ saved
+
+-- a torn write of one of the pages more stays within them
+abbrev pub StaysWithin : ℕ → ℕ → ℕ → List ℕ → List ℕ → List ℕ → List ℕ → Type 0
+StaysWithin pages_at limit k pages old mid new =
+    k < length pages → are_below limit pages ≡ true → Within pages_at limit pages old mid → Torn (place_of pages_at (get_or pages k 0)) 4096 mid new
+    → Within pages_at limit pages old new
+
+-- files that keep the same and have the same pages below the limit have the same pages once they are put back
+abbrev pub SameRestored : ℕ → ℕ → ℕ → ℕ → ℕ → List ℕ → List ℕ → Type 0
+SameRestored base pages_at limit upto part c d =
+    saved_at base c ≡ saved_at base d → place_of pages_at limit ≤ length c → place_of pages_at limit ≤ length d
+    → extent pages_at (4096 * limit) c ≡ extent pages_at (4096 * limit) d
+    → extent pages_at (4096 * limit) (restored base pages_at limit upto part c) ≡ extent pages_at (4096 * limit) (restored base pages_at limit upto part d)
+
+-- putting back changes nothing but pages below the limit
+pub record OnlyPages (pages_at limit : ℕ) (bytes back : List ℕ) : Type 0 where
+  pub elsewhere : (from len : ℕ) → Apart pages_at (4096 * limit) from len → extent from len back ≡ extent from len bytes
+  pub long : length back ≡ length bytes
+
+-- what is kept for another place isn't put back
+abbrev pub StaysAtOther : ℕ → ℕ → ℕ → ℕ → ℕ → Saved → List ℕ → Type 0
+StaysAtOther base pages_at limit upto part saved bytes =
+    saved_at base bytes ≡ Some saved → (saved.upto ≡ upto → saved.part ≡ part → ⊥) → restored base pages_at limit upto part bytes ≡ bytes

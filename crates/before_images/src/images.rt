@@ -7,7 +7,7 @@ ghost use Rattle.site_disk.specs.Ledger.{MayUse, Uses};
 
 use crate::lists::PAGE_LEN;
 use crate::putting::put_back_from;
-use crate::saving::{drop_region, save_pages_in};
+use crate::saving::{REGION_LEN, drop_region, save_pages_in};
 use site_disk::{Disk, Era, Failed};
 use std::marker::Model;
 
@@ -64,21 +64,22 @@ impl Images {
         requires distinct { IsTrue (are_distinct pages.now) }
 
         ensures value { self.new ≡ self.old }
-        ensures saved { IsTrue D.tells → Lie pages_at pages.now (D.bytes disk.old)
+        ensures saved { IsTrue D.is_modelled → Lie pages_at pages.now (D.bytes disk.old)
             → OnOk result (Saves self.old.base pages_at from.0 from.1 pages.now (D.bytes disk.old) (D.bytes disk.new)) }
-        ensures durable { IsTrue D.tells → OnOk result (OnlyAfter era.now.number (D.bytes disk.new) (D.image disk.new)) }
-        ensures crash { IsTrue D.tells → Lie pages_at pages.now (D.bytes disk.old)
+        ensures durable { IsTrue D.is_modelled → OnOk result (OnlyAfter era.now.number (D.bytes disk.new) (D.image disk.new)) }
+        ensures crash { IsTrue D.is_modelled → Lie pages_at pages.now (D.bytes disk.old)
             → GateStands self.old.base (D.ledger disk.old).last (D.bytes disk.old) (D.image disk.old)
             → Leaves era.now.number (MaySave self.old.base pages_at from.0 from.1 pages.now) (D.image disk.old) (D.image disk.new) }
 
         ensures ledger { Uses era.now (4096 * length pages.now + 1) (self.old.base + 73729 + 4096 * length pages.now)
             (D.ledger disk.old) (D.ledger disk.new) }
-        ensures bound { IsTrue D.tells → pages_at ≤ length (D.bytes disk.old)
+        ensures bound { IsTrue D.is_modelled → pages_at ≤ length (D.bytes disk.old)
             → (D.ledger disk.new).written ≤ (D.ledger disk.old).written + 4096 * length pages.now + 4097 }
         ensures cause { HasCause (D.ledger disk.old).faults (D.ledger disk.new).faults result }
     {
-        let mut buffer = [0; PAGE_LEN];
-        save_pages_in(disk, era, self.base, pages_at, from, pages, &mut buffer)
+        let mut buffer = [0; REGION_LEN];
+        let region = &mut buffer[..PAGE_LEN * (pages.len() + 1)];
+        save_pages_in(disk, era, self.base, pages_at, from, pages, region)
     }
 
     /// Puts the pages back that were kept for this place of the work, and syncs. True exactly where the gate is open, the
@@ -98,38 +99,28 @@ impl Images {
         requires fits { pages_at ≤ 2 ^ 63 }
 
         ensures value { self.new ≡ self.old }
-        ensures applies { IsTrue D.tells → IfOk result (λ done.
+        ensures applies { IsTrue D.is_modelled → IfOk result (λ done.
             done ≡ applies pages from.0 from.1 (saved_at self.old.base (D.bytes disk.old))) }
-        ensures bytes { IsTrue D.tells → place_of pages_at pages ≤ length (D.bytes disk.old)
+        ensures bytes { IsTrue D.is_modelled → place_of pages_at pages ≤ length (D.bytes disk.old)
             → OnOk result (D.bytes disk.new ≡ restored self.old.base pages_at pages from.0 from.1 (D.bytes disk.old)) }
         // So a second call leaves the same.
-        ensures kept { IsTrue D.tells → place_of pages_at pages ≤ length (D.bytes disk.old)
+        ensures kept { IsTrue D.is_modelled → place_of pages_at pages ≤ length (D.bytes disk.old)
             → OnOk result (MayPutBack self.old.base pages_at pages from.0 from.1 (D.bytes disk.old) (D.bytes disk.new)) }
-        ensures durable { IsTrue D.tells → IfOk result (λ done.
+        ensures durable { IsTrue D.is_modelled → IfOk result (λ done.
             IsTrue done → OnlyAfter era.now.number (D.bytes disk.new) (D.image disk.new)) }
         ensures refused_bytes { IfOk result (λ done. done ≡ false → D.bytes disk.new ≡ D.bytes disk.old) }
         ensures refused_images { IfOk result (λ done. done ≡ false → Unchanged (D.image disk.old) (D.image disk.new)) }
-        ensures crash { IsTrue D.tells
+        ensures crash { IsTrue D.is_modelled
             → Stands self.old.base pages_at pages (D.ledger disk.old).last (D.bytes disk.old) (D.image disk.old)
             → Leaves era.now.number (MayPutBack self.old.base pages_at pages from.0 from.1) (D.image disk.old) (D.image disk.new) }
 
         ensures ledger { Uses era.now 69632 (pages_at + 4096 * 2 ^ 32 + 65536) (D.ledger disk.old) (D.ledger disk.new) }
-        ensures bound { IsTrue D.tells → place_of pages_at pages ≤ length (D.bytes disk.old)
+        ensures bound { IsTrue D.is_modelled → place_of pages_at pages ≤ length (D.bytes disk.old)
             → (D.ledger disk.new).written ≤ (D.ledger disk.old).written + 65536 }
         ensures cause { HasCause (D.ledger disk.old).faults (D.ledger disk.new).faults result }
     {
-        let mut head = [0; PAGE_LEN];
-        let mut buffer = [0; PAGE_LEN];
-        put_back_from(
-            disk,
-            era,
-            self.base,
-            pages_at,
-            pages,
-            from,
-            &mut head,
-            &mut buffer,
-        )
+        let mut region = [0; REGION_LEN];
+        put_back_from(disk, era, self.base, pages_at, pages, from, &mut region)
     }
 
     /// Closes the gate, so that nothing is kept. Where it is closed already, nothing is written.
@@ -137,17 +128,17 @@ impl Images {
         requires { MayUse era.now (D.ledger disk.old) }
 
         ensures value { self.new ≡ self.old }
-        ensures dropped { IsTrue D.tells → self.old.base ≤ length (D.bytes disk.old)
+        ensures dropped { IsTrue D.is_modelled → self.old.base ≤ length (D.bytes disk.old)
             → OnOk result (Drops self.old.base (D.bytes disk.old) (D.bytes disk.new)) }
-        ensures durable { IsTrue D.tells → self.old.base ≤ length (D.bytes disk.old)
+        ensures durable { IsTrue D.is_modelled → self.old.base ≤ length (D.bytes disk.old)
             → OnlyAfter (D.ledger disk.old).last (D.bytes disk.old) (D.image disk.old)
             → OnOk result (OnlyAfter era.now.number (D.bytes disk.new) (D.image disk.new)) }
-        ensures crash { IsTrue D.tells → self.old.base < length (D.bytes disk.old)
+        ensures crash { IsTrue D.is_modelled → self.old.base < length (D.bytes disk.old)
             → GateStands self.old.base (D.ledger disk.old).last (D.bytes disk.old) (D.image disk.old)
             → Leaves era.now.number (MayDrop self.old.base) (D.image disk.old) (D.image disk.new) }
 
         ensures ledger { Uses era.now 1 (self.old.base + 1) (D.ledger disk.old) (D.ledger disk.new) }
-        ensures bound { IsTrue D.tells → self.old.base ≤ length (D.bytes disk.old)
+        ensures bound { IsTrue D.is_modelled → self.old.base ≤ length (D.bytes disk.old)
             → (D.ledger disk.new).written ≤ (D.ledger disk.old).written + 1 }
         ensures cause { HasCause (D.ledger disk.old).faults (D.ledger disk.new).faults result }
     {

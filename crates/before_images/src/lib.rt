@@ -13,7 +13,10 @@ mod putting;
 mod saving;
 
 pub use images::Images;
-pub use laws::saved_pages_come_back;
+pub use laws::{
+    another_place_keeps_its_pages, only_pages_are_put_back, restored_pages_agree,
+    saved_pages_come_back, torn_pages_stay_within,
+};
 
 #[cfg(test)]
 mod tests;

@@ -72,8 +72,8 @@ fn names_each_once(head: &[u8], count: usize) -> bool
     true
 }
 
-/// Whether all pages are below a limit.
-pub(crate) fn names_below(head: &[u8], count: usize, limit: u32) -> bool
+// Whether all pages are below a limit.
+fn names_below(head: &[u8], count: usize, limit: u32) -> bool
     requires { 32 + 4 * count ≤ length head.now }
     ensures { result ≡ are_below limit (numbers 0 count head.now) }
 {
@@ -109,12 +109,20 @@ pub(crate) fn list_len(head: &[u8]) -> Option<usize>
     Some(count)
 }
 
-/// Whether a list is of this place.
-pub(crate) fn is_of(head: &[u8], from: (u64, u32)) -> bool
+// Whether a list is of this place.
+fn is_of(head: &[u8], from: (u64, u32)) -> bool
     requires { 32 ≤ length head.now }
     ensures { result ≡ (nat_eq (u64_at 16 head.now) from.0 && nat_eq (u32_at 24 head.now) from.1) }
 {
     u64_at(head, 16) == from.0 && u32_at(head, 24) == from.1
+}
+
+/// Whether a list is of this place, with all of its pages below a limit.
+pub(crate) fn applies_to(head: &[u8], count: usize, limit: u32, from: (u64, u32)) -> bool
+    requires { 32 + 4 * count ≤ length head.now }
+    ensures { result ≡ (nat_eq (u64_at 16 head.now) from.0 && nat_eq (u32_at 24 head.now) from.1 && are_below limit (numbers 0 count head.now)) }
+{
+    is_of(head, from) && names_below(head, count, limit)
 }
 
 fn write_bytes(into: &mut [u8], at: usize, bytes: &[u8])
@@ -152,14 +160,14 @@ fn write_pages(head: &mut [u8], pages: &[u32])
     }
 }
 
-/// A list as it is written.
-pub(crate) fn write_list(head: &mut [u8], from: (u64, u32), pages: &[u32])
-    requires head { length head.old ≡ 4096 }
+/// Writes a list into a region.
+pub(crate) fn write_list(region: &mut [u8], from: (u64, u32), pages: &[u32])
+    requires room { 4096 ≤ length region.old }
     requires few { length pages.now ≤ 16 }
-    ensures { head.new ≡ spelled from.0 from.1 pages.now }
+    ensures { take 4096 region.new ≡ spelled from.0 from.1 pages.now }
 {
-    write_front(head, from, pages.len() as u32);
-    write_pages(head, pages);
+    write_front(region, from, pages.len() as u32);
+    write_pages(region, pages);
     let end = 32 + 4 * pages.len();
-    write_zeros(head, end, PAGE_LEN - end);
+    write_zeros(region, end, PAGE_LEN - end);
 }

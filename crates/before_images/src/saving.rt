@@ -1,84 +1,83 @@
 // Pages saved in a region behind its gate.
-ghost use Rattle.std.specs.Prelude.{◌≡◌, ◌+◌, ◌*◌, ◌^◌, ◌<◌, ◌≤◌, [], ◌∷◌, length, true, IsTrue, OnOk};
-ghost use Rattle.site_disk.specs.Bytes.{written, filled, Torn};
+ghost use Rattle.std.specs.Prelude.{◌≡◌, ◌+◌, ◌-◌, ◌*◌, ◌^◌, ◌<◌, ◌≤◌, [], ◌∷◌, length, drop, true, IsTrue, OnOk};
+ghost use Rattle.site_disk.specs.Bytes.{written, Same, Torn};
 ghost use Rattle.site_disk.specs.Causes.{HasCause};
 ghost use Rattle.site_disk.specs.Gates.{shut, GateStands, MayShut};
-ghost use Rattle.site_disk.specs.Images.{Leaves, OnlyAfter};
+ghost use Rattle.site_disk.specs.Images.{Leaves, OnlyAfter, Unchanged};
 ghost use Rattle.site_disk.specs.Ledger.{MayUse, Uses};
-ghost use Rattle.before_images.specs.Saved.{Lie, filled_region, MayFillAndOpen};
+ghost use Rattle.before_images.specs.Saved.{region_of, filled_region, MayFillAndOpen};
 
 use crate::lists::write_list;
-use crate::pages::save_pages;
-use site_disk::{Disk, Era, Failed, close_gate, reach, write_and_sync};
+use crate::pages::read_pages;
+use site_disk::{Disk, Era, Failed, close_gate, extend_to, write_and_sync};
 
 /// The length of a region.
-pub(crate) const REGION_LEN: u64 = 69_632;
+pub(crate) const REGION_LEN: usize = 69_632;
 
-// The images and the list of pages, behind a closed gate.
-fn fill_region<D: Disk>(
+// A region as it is to be written for pages as they stand.
+fn read_region<D: Disk>(
     disk: &mut D,
     era: &Era,
-    base: u64,
     pages_at: u64,
     from: (u64, u32),
     pages: &[u32],
-    buffer: &mut [u8],
+    region: &mut [u8],
 ) -> Result<(), Failed>
     requires era { MayUse era.now (D.ledger disk.old) }
-    requires within { IsTrue D.tells → base + 69632 ≤ length (D.bytes disk.old) }
-    requires base { base ≤ 2 ^ 62 }
-    requires pages_at { base + 69632 ≤ pages_at }
     requires fits { pages_at ≤ 2 ^ 63 }
     requires few { length pages.now ≤ 16 }
-    requires buffer { length buffer.old ≡ 4096 }
-    ensures bytes { IsTrue D.tells → Lie pages_at pages.now (D.bytes disk.old)
-        → OnOk result (D.bytes disk.new ≡ filled_region base pages_at from.0 from.1 pages.now (D.bytes disk.old)) }
-    ensures long { IsTrue D.tells → OnOk result (length (D.bytes disk.old) ≤ length (D.bytes disk.new)) }
-    ensures durable { IsTrue D.tells → OnOk result (OnlyAfter era.now.number (D.bytes disk.new) (D.image disk.new)) }
-    ensures crash { Leaves era.now.number (Torn (base + 1) 69631) (D.image disk.old) (D.image disk.new) }
-    ensures ledger { Uses era.now (4096 * length pages.now) (4096 * length pages.now + 4095)
-        (D.ledger disk.old) (D.ledger disk.new) }
+    requires room { length region.old ≡ 4096 * (length pages.now + 1) }
+    ensures found { IsTrue D.is_modelled
+        → OnOk result (region.new ≡ region_of pages_at from.0 from.1 pages.now (D.bytes disk.old)) }
+    ensures bytes { OnOk result (D.bytes disk.new ≡ D.bytes disk.old) }
+    ensures images { OnOk result (Unchanged (D.image disk.old) (D.image disk.new)) }
+    ensures crash { Leaves era.now.number Same (D.image disk.old) (D.image disk.new) }
+    ensures ledger { Uses era.now (4096 * length pages.now) 0 (D.ledger disk.old) (D.ledger disk.new) }
     ensures cause { HasCause (D.ledger disk.old).faults (D.ledger disk.new).faults result }
 {
-    save_pages(disk, era, base + 4096, pages_at, pages, buffer)?;
-    write_list(buffer, from, pages);
-    write_and_sync(disk, era, base + 1, &buffer[1..])
+    write_list(region, from, pages);
+    read_pages(disk, era, pages_at, pages, region)
 }
 
-// The same, with the gate closed before and opened behind it.
-fn replace_region<D: Disk>(
-    disk: &mut D,
-    era: &Era,
-    base: u64,
-    pages_at: u64,
-    from: (u64, u32),
-    pages: &[u32],
-    buffer: &mut [u8],
-) -> Result<(), Failed>
+// Writes a region behind its closed gate.
+fn fill_region<D: Disk>(disk: &mut D, era: &Era, base: u64, region: &[u8]) -> Result<(), Failed>
     requires era { MayUse era.now (D.ledger disk.old) }
-    requires within { IsTrue D.tells → base + 69632 ≤ length (D.bytes disk.old) }
+    requires within { IsTrue D.is_modelled → base + 1 ≤ length (D.bytes disk.old) }
     requires base { base ≤ 2 ^ 62 }
-    requires pages_at { base + 69632 ≤ pages_at }
-    requires fits { pages_at ≤ 2 ^ 63 }
-    requires few { length pages.now ≤ 16 }
-    requires buffer { length buffer.old ≡ 4096 }
-    ensures bytes { IsTrue D.tells → Lie pages_at pages.now (D.bytes disk.old)
-        → OnOk result (D.bytes disk.new
-        ≡ written base (1 ∷ []) (filled_region base pages_at from.0 from.1 pages.now (shut base (D.bytes disk.old)))) }
-    ensures durable { IsTrue D.tells → OnOk result (OnlyAfter era.now.number (D.bytes disk.new) (D.image disk.new)) }
-    ensures crash { IsTrue D.tells → Lie pages_at pages.now (D.bytes disk.old)
+    requires some { 1 ≤ length region.now }
+    requires fits { length region.now ≤ 69632 }
+    ensures bytes { IsTrue D.is_modelled → OnOk result (D.bytes disk.new ≡ written (base + 1) (drop 1 region.now) (D.bytes disk.old)) }
+    ensures durable { IsTrue D.is_modelled → OnOk result (OnlyAfter era.now.number (D.bytes disk.new) (D.image disk.new)) }
+    ensures crash { Leaves era.now.number (Torn (base + 1) 69631) (D.image disk.old) (D.image disk.new) }
+    ensures ledger { Uses era.now 0 (length region.now - 1) (D.ledger disk.old) (D.ledger disk.new) }
+    ensures cause { HasCause (D.ledger disk.old).faults (D.ledger disk.new).faults result }
+{
+    write_and_sync(disk, era, base + 1, &region[1..])
+}
+
+// Writes a region, with the gate closed before and opened behind it.
+fn replace_region<D: Disk>(disk: &mut D, era: &Era, base: u64, region: &[u8]) -> Result<(), Failed>
+    requires era { MayUse era.now (D.ledger disk.old) }
+    requires within { IsTrue D.is_modelled → base + 69632 ≤ length (D.bytes disk.old) }
+    requires base { base ≤ 2 ^ 62 }
+    requires some { 1 ≤ length region.now }
+    requires fits { length region.now ≤ 69632 }
+    ensures bytes { IsTrue D.is_modelled
+        → OnOk result (D.bytes disk.new ≡ written base (1 ∷ []) (filled_region base region.now (D.bytes disk.old))) }
+    ensures durable { IsTrue D.is_modelled → OnOk result (OnlyAfter era.now.number (D.bytes disk.new) (D.image disk.new)) }
+    ensures crash { IsTrue D.is_modelled
         → GateStands base (D.ledger disk.old).last (D.bytes disk.old) (D.image disk.old)
-        → Leaves era.now.number (MayFillAndOpen base pages_at from.0 from.1 pages.now) (D.image disk.old) (D.image disk.new) }
-    ensures ledger { Uses era.now (4096 * length pages.now + 1) (4096 * length pages.now + 4097)
-        (D.ledger disk.old) (D.ledger disk.new) }
+        → Leaves era.now.number (MayFillAndOpen base region.now (D.bytes disk.old)) (D.image disk.old) (D.image disk.new) }
+    ensures ledger { Uses era.now 1 (length region.now + 1) (D.ledger disk.old) (D.ledger disk.new) }
     ensures cause { HasCause (D.ledger disk.old).faults (D.ledger disk.new).faults result }
 {
     close_gate(disk, era, base)?;
-    fill_region(disk, era, base, pages_at, from, pages, buffer)?;
+    fill_region(disk, era, base, region)?;
     write_and_sync(disk, era, base, &[1])
 }
 
-/// Saves pages in a region, after zero bytes up to its end where the disk doesn't reach it.
+/// Saves pages in a region, after zero bytes up to its end where the disk doesn't reach it. The pages are read before
+/// anything is written.
 pub(crate) fn save_pages_in<D: Disk>(
     disk: &mut D,
     era: &Era,
@@ -86,47 +85,48 @@ pub(crate) fn save_pages_in<D: Disk>(
     pages_at: u64,
     from: (u64, u32),
     pages: &[u32],
-    buffer: &mut [u8],
+    region: &mut [u8],
 ) -> Result<(), Failed>
     requires era { MayUse era.now (D.ledger disk.old) }
     requires base { base ≤ 2 ^ 62 }
-    requires pages_at { base + 69632 ≤ pages_at }
     requires fits { pages_at ≤ 2 ^ 63 }
     requires few { length pages.now ≤ 16 }
-    requires buffer { length buffer.old ≡ 4096 }
-    ensures bytes { IsTrue D.tells → Lie pages_at pages.now (D.bytes disk.old) → base + 69632 ≤ length (D.bytes disk.old)
-        → OnOk result (D.bytes disk.new
-        ≡ written base (1 ∷ []) (filled_region base pages_at from.0 from.1 pages.now (shut base (D.bytes disk.old)))) }
-    ensures durable { IsTrue D.tells → OnOk result (OnlyAfter era.now.number (D.bytes disk.new) (D.image disk.new)) }
-    ensures crash { IsTrue D.tells → Lie pages_at pages.now (D.bytes disk.old) → base + 69632 ≤ length (D.bytes disk.old)
+    requires room { length region.old ≡ 4096 * (length pages.now + 1) }
+    ensures bytes { IsTrue D.is_modelled → base + 69632 ≤ length (D.bytes disk.old)
+        → OnOk result (D.bytes disk.new ≡ written base (1 ∷ [])
+        (filled_region base (region_of pages_at from.0 from.1 pages.now (D.bytes disk.old)) (D.bytes disk.old))) }
+    ensures durable { IsTrue D.is_modelled → OnOk result (OnlyAfter era.now.number (D.bytes disk.new) (D.image disk.new)) }
+    ensures crash { IsTrue D.is_modelled → base + 69632 ≤ length (D.bytes disk.old)
         → GateStands base (D.ledger disk.old).last (D.bytes disk.old) (D.image disk.old)
-        → Leaves era.now.number (MayFillAndOpen base pages_at from.0 from.1 pages.now) (D.image disk.old) (D.image disk.new) }
+        → Leaves era.now.number (MayFillAndOpen base (region_of pages_at from.0 from.1 pages.now (D.bytes disk.old)) (D.bytes disk.old))
+        (D.image disk.old) (D.image disk.new) }
     ensures ledger { Uses era.now (4096 * length pages.now + 1) (base + 69632 + 4096 * length pages.now + 4097)
         (D.ledger disk.old) (D.ledger disk.new) }
-    ensures bound { IsTrue D.tells → base + 69632 ≤ length (D.bytes disk.old)
+    ensures bound { IsTrue D.is_modelled → base + 69632 ≤ length (D.bytes disk.old)
         → (D.ledger disk.new).written ≤ (D.ledger disk.old).written + 4096 * length pages.now + 4097 }
     ensures cause { HasCause (D.ledger disk.old).faults (D.ledger disk.new).faults result }
 {
-    reach(disk, era, base + REGION_LEN)?;
-    replace_region(disk, era, base, pages_at, from, pages, buffer)
+    read_region(disk, era, pages_at, from, pages, region)?;
+    extend_to(disk, era, base + REGION_LEN as u64)?;
+    replace_region(disk, era, base, region)
 }
 
 /// Closes the gate of a region, after zero bytes up to it where the disk doesn't reach it.
 pub(crate) fn drop_region<D: Disk>(disk: &mut D, era: &Era, base: u64) -> Result<(), Failed>
     requires { MayUse era.now (D.ledger disk.old) }
-    ensures bytes { IsTrue D.tells → base ≤ length (D.bytes disk.old)
+    ensures bytes { IsTrue D.is_modelled → base ≤ length (D.bytes disk.old)
         → OnOk result (D.bytes disk.new ≡ shut base (D.bytes disk.old)) }
-    ensures durable { IsTrue D.tells → base ≤ length (D.bytes disk.old)
+    ensures durable { IsTrue D.is_modelled → base ≤ length (D.bytes disk.old)
         → OnlyAfter (D.ledger disk.old).last (D.bytes disk.old) (D.image disk.old)
         → OnOk result (OnlyAfter era.now.number (D.bytes disk.new) (D.image disk.new)) }
-    ensures crash { IsTrue D.tells → base ≤ length (D.bytes disk.old)
+    ensures crash { IsTrue D.is_modelled → base ≤ length (D.bytes disk.old)
         → GateStands base (D.ledger disk.old).last (D.bytes disk.old) (D.image disk.old)
         → Leaves era.now.number (MayShut base) (D.image disk.old) (D.image disk.new) }
     ensures ledger { Uses era.now 1 (base + 1) (D.ledger disk.old) (D.ledger disk.new) }
-    ensures bound { IsTrue D.tells → base ≤ length (D.bytes disk.old)
+    ensures bound { IsTrue D.is_modelled → base ≤ length (D.bytes disk.old)
         → (D.ledger disk.new).written ≤ (D.ledger disk.old).written + 1 }
     ensures cause { HasCause (D.ledger disk.old).faults (D.ledger disk.new).faults result }
 {
-    reach(disk, era, base)?;
+    extend_to(disk, era, base)?;
     close_gate(disk, era, base)
 }

@@ -3,7 +3,7 @@ ghost use Rattle.site_disk.specs.Ledger.{MayUse};
 ghost use Rattle.site_disk.specs.MemDisk.{disk_ledger};
 
 use crate::{Images, saved_pages_come_back};
-use site_disk::{Choice, Disk, Era, Failed, MemDisk, reach};
+use site_disk::{Choice, Disk, Era, Failed, MemDisk, extend_to};
 use std::alloc::Global;
 use std::test::Fail;
 
@@ -39,7 +39,7 @@ fn disk_of_pages(alloc: Global, era: &Era) -> Result<MemDisk, Fail>
     ensures { IfOk result (λ disk. MayUse era.now (disk_ledger disk)) }
 {
     let mut disk = MemDisk::new(alloc, era, Vec::new(alloc));
-    reach(&mut disk, era, PAGES_AT + 17 * 4096)?;
+    extend_to(&mut disk, era, PAGES_AT + 17 * 4096)?;
     fill_page(&mut disk, era, 3, 13)?;
     fill_page(&mut disk, era, 16, 26)?;
     Ok(disk)
@@ -138,7 +138,7 @@ static LISTS: [(usize, u8, bool); 16] = [
     (4095, 1, false),
 ];
 
-fn is_put_back(alloc: Global, at: usize, byte: u8) -> Result<bool, Fail> {
+fn is_put_back(alloc: Global, at: usize, byte: u8, len: u64) -> Result<bool, Fail> {
     let era = Era::first();
     let mut list = [0; 4096];
     for (place, value) in [(0, 1), (23, 5), (27, 2), (31, 2), (39, 1), (at, byte)] {
@@ -147,6 +147,7 @@ fn is_put_back(alloc: Global, at: usize, byte: u8) -> Result<bool, Fail> {
         }
     }
     let mut disk = MemDisk::new(alloc, &era, Vec::from_slice(alloc, &list)?);
+    extend_to(&mut disk, &era, len)?;
     Ok(Images::new(0).put_back(&mut disk, &era, 69_632, 4, (5, 2))?)
 }
 
@@ -155,10 +156,19 @@ fn a_list_outside_of_the_grammar_is_refused(rt: HostRuntime) -> Result<(), Fail>
     let alloc = rt.alloc();
     for (at, byte, wanted) in LISTS {
         assert_eq!(rt;
-            is_put_back(alloc, at, byte)?,
+            is_put_back(alloc, at, byte, 3 * 4096)?,
             wanted,
             "byte {at} as {byte}"
         );
+    }
+    Ok(())
+}
+
+#[test]
+fn a_list_whose_images_are_cut_off_is_refused(rt: HostRuntime) -> Result<(), Fail> {
+    let alloc = rt.alloc();
+    for len in [4096, 8192, 3 * 4096 - 1] {
+        assert_eq!(rt; is_put_back(alloc, 0, 1, len)?, false, "{len} bytes");
     }
     Ok(())
 }
@@ -174,7 +184,7 @@ fn left_after_stop(
     let mut era = Era::first();
     let mut disk = MemDisk::new(alloc, &era, Vec::new(alloc));
     let mut images = Images::new(BASE);
-    reach(&mut disk, &era, PAGES_AT + 3 * 4096)?;
+    extend_to(&mut disk, &era, PAGES_AT + 3 * 4096)?;
     fill_page(&mut disk, &era, 1, 11)?;
     images.save(&mut disk, &era, PAGES_AT, (1, 0), &[0, 2])?;
     era.next();
@@ -191,13 +201,13 @@ fn left_after_stop(
     Ok((first, second, last_byte(&left, 1)))
 }
 
-// The calls of a save of one page: the length, the gate read, closed and synced, the page read and its image written,
-// the list, a sync, the gate, a sync.
+// The calls of a save of one page: the page read, the length, the gate read, closed and synced, the list and the image
+// written, a sync, the gate, a sync.
 #[test]
 fn a_stop_leaves_one_set_or_none(rt: HostRuntime) -> Result<(), Fail> {
     let alloc = rt.alloc();
-    for call in 1..12 {
-        for bytes in [0, 1, 2048, 4096] {
+    for call in 1..11 {
+        for bytes in [0, 1, 4095, 8191] {
             for seed in 0..4 {
                 let (first, second, page) = left_after_stop(alloc, call, bytes, seed)?;
                 assert!(rt; !first || !second, "call {call}, byte {bytes}, seed {seed}");
@@ -205,9 +215,9 @@ fn a_stop_leaves_one_set_or_none(rt: HostRuntime) -> Result<(), Fail> {
                     page == if second { 11 } else { 99 },
                     "page {page} at call {call}, byte {bytes}, seed {seed}"
                 );
-                assert!(rt; call > 2 || first, "call {call}, byte {bytes}, seed {seed}");
+                assert!(rt; call > 3 || first, "call {call}, byte {bytes}, seed {seed}");
                 assert!(rt;
-                    call < 11 || second,
+                    call < 10 || second,
                     "call {call}, byte {bytes}, seed {seed}"
                 );
             }

@@ -1,18 +1,15 @@
 -- Headers of volumes, and the end of an object.
 use Rattle.std.proofs.Common.{◌≡◌, ℕ, suc, ◌+◌, ◌%◌, ◌<◌, ◌≤◌, Bool, List, [], ◌∷◌, ◌++◌, length, take, drop, refl, arith, ap, sym, ◌∙◌, subst, Option, Some, None, length-append}
-use Rattle.std.specs.Prelude.{IfSome, sum_by, slice_index, ◌≢◌}
-use Rattle.std.proofs.lemmas.List.Sums.{sum_by-cons}
+use Rattle.std.specs.Prelude.{IfSome, slice_index, ◌≢◌}
 use Rattle.site_disk.specs.Bytes.{extent, written}
 use Rattle.site_disk.specs.BytesLaws.{drop-written, extent-written, extent-extent}
 use Rattle.site_headers.specs.Headers.{volume_tail, IsVolumeSize, HasHeader}
 use Rattle.site_headers.specs.HeaderLaws.{HasHeader-same, HasHeader-extent, length-volume_tail, length-HasHeader}
 use Rattle.gated_slots.specs.Header.{IsHeader}
-use Rattle.block_chain.specs.Blocks.{times, ascending, blocks_of_runs}
-use Rattle.block_chain.specs.BlocksLaws.{length-ascending}
+use Rattle.block_chain.specs.Blocks.{times, blocks_for}
 use Rattle.block_chain.specs.Table.{Table, blocks_of}
 use Rattle.block_chain.specs.declared.lists.BlockList.{BlockList}
-use Rattle.block_chain.specs.declared.runs.Run.{Run}
-use Rattle.object_volume.specs.Objects.{place_of, blocks_for}
+use Rattle.object_volume.specs.Objects.{place_of}
 use Rattle.object_volume.specs.Headers.{HasVolume}
 use Rattle.object_volume.specs.Sending.{part_block, part_end, Stored}
 use Rattle.object_volume.proofs.SendingLemmas.{length-rest, length-message, length-part_block, last_below, part_block_listed}
@@ -62,13 +59,6 @@ volume_written number site blocks old new size is =
       header = HasHeader-extent 1 tail new (omega arith) (length-volume_tail number site blocks)
           (ap (extent 0 4096) is ∙ ap (λ (k : ℕ). extent 0 k (written 0 (1 ∷ tail) old)) (sym long) ∙ extent-written 0 (1 ∷ tail) old (omega arith));
     }
-
--- as many blocks as the runs' counts add up to
-pub length-blocks_of_runs : (runs : List Run) → length (blocks_of_runs runs) ≡ sum_by (λ (run : Run). run.count) runs
-length-blocks_of_runs [] = refl
-length-blocks_of_runs (run ∷ runs) =
-    length-append (ascending run.first run.count) (blocks_of_runs runs)
-    ∙ omega (arith, length-ascending run.first run.count, length-blocks_of_runs runs, sum_by-cons (λ (r : Run). r.count) run runs)
 
 module _ {tells : Bool} {file : List ℕ} {table : Table} {list : BlockList} {last : ℕ} {part message : List ℕ} (so_far : Stored tells file table list last part message) where
   -- the buffer's bytes are the part

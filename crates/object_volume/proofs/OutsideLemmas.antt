@@ -70,6 +70,7 @@ writes_again first second le = record {
   read = omega (arith, first.read, second.read);
   written = omega (arith, first.written, second.written, le);
   synced = second.synced;
+  later = omega (arith, first.later, second.later);
 }
 
 -- nothing after a call
@@ -82,4 +83,5 @@ after_call uses = record {
   read = omega arith;
   written = omega arith;
   synced = uses.synced;
+  later = omega arith;
 }

@@ -7,7 +7,7 @@ use Rattle.site_disk.specs.Bytes.{extent, written, filled}
 use Rattle.site_disk.specs.BytesLaws.{extent-written}
 use Rattle.site_disk.specs.ImagesLaws.{goes_on}
 use Rattle.block_chain.specs.Blocks.{AreApart}
-use Rattle.block_chain.specs.BlocksLaws.{times-append}
+use Rattle.block_chain.specs.BlocksLaws.{ascending-append, times-append}
 use Rattle.block_chain.specs.Table.{blocks_of, IsListOf}
 use Rattle.site_disk.specs.Images.{Leaves}
 use Rattle.site_disk.specs.Ledger.{Ledger, EraView, Uses}
@@ -15,7 +15,7 @@ use Rattle.block_chain.specs.Blocks.{times, ascending}
 use Rattle.block_chain.specs.Table.{Table}
 use Rattle.block_chain.specs.declared.lists.BlockList.{BlockList}
 use Rattle.object_volume.specs.Objects.{place_of, places, bytes_at, Spares, Outside}
-use Rattle.object_volume.specs.ObjectsLaws.{ascending-append, places-append, places-cons, places-nil, length-places, bytes_at-ascending, bytes_at-append, bytes_at-nil, spares_none, spares_again, spares_less, spared_blocks}
+use Rattle.object_volume.specs.ObjectsLaws.{places-append, places-cons, places-nil, length-places, bytes_at-ascending, bytes_at-append, bytes_at-nil, spares_none, spares_again, spares_less, spared_blocks}
 use Rattle.object_volume.proofs.OutsideLemmas.{written_outside, outside_spares, writes_again}
 use Rattle.object_volume.proofs.TakingLemmas.{taken_free, takes_nothing}
 use Rattle.object_volume.specs.Taking.{Takes, PutsBlocks}

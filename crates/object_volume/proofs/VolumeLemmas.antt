@@ -10,13 +10,6 @@ use Rattle.object_volume.specs.Taking.{Takes}
 use Rattle.object_volume.specs.Sending.{IsSent}
 use Rattle.object_volume.specs.Volumes.{table_or_none, blocks_or_none}
 
--- no block in common, the other way round
-pub apart_back : (xs ys : List ℕ) → AreApart xs ys → AreApart ys xs
-apart_back xs ys apart block some = ⊎_elim
-    (λ (both : 0 < times block xs). absurd (omega (arith, some, apart block both)))
-    (λ (none : times block xs ≤ 0). omega (arith, none))
-    (cases_lt 0 (times block xs))
-
 pub same_table : (chains : Option Table) (table : Table) → chains ≡ Some table → table_or_none chains ≡ table
 same_table chains table is = ap table_or_none is
 

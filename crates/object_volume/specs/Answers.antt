@@ -1,6 +1,6 @@
 -- What a volume answers.
 use Rattle.std.specs.Prelude.{◌≡◌, ◌≢◌, ◌<◌, ℕ, List, length}
-use Rattle.object_volume.specs.Objects.{AreRunsOf}
+use Rattle.block_chain.specs.Blocks.{AreRunsOf}
 use Rattle.object_volume.specs.declared.faults.Sent.{Sent}
 use Rattle.object_volume.specs.declared.faults.VolumeFault.{VolumeFault}
 use Rattle.object_volume.specs.declared.faults.VolumeFault.TheVariants.{NoHeader, Overlap, Failed, OutOfMemory}

@@ -1,8 +1,8 @@
 -- Where the bytes of blocks stand on a volume, and what an object's runs read as. All counts are bytes but where blocks are named.
-use Rattle.std.specs.Prelude.{◌≡◌, ℕ, ◌+◌, ◌*◌, ◌/◌, ◌<◌, ◌≤◌, List, [], ◌∷◌, length, take, drop, sum_by}
+use Rattle.std.specs.Prelude.{◌≡◌, ℕ, ◌+◌, ◌*◌, ◌<◌, ◌≤◌, List, [], ◌∷◌, length, take, drop}
 use Rattle.std.specs.List.{flat_map}
 use Rattle.site_disk.specs.Bytes.{extent, Apart}
-use Rattle.block_chain.specs.Blocks.{times, ascending, blocks_of_runs, AreMaximal}
+use Rattle.block_chain.specs.Blocks.{times, ascending, blocks_of_runs}
 use Rattle.block_chain.specs.declared.runs.Run.{Run}
 
 -- a block has 4,096 bytes, and block 0 comes right behind the header page
@@ -34,15 +34,6 @@ object runs size file = bytes_at file (object_places runs size)
 -- n bytes of it from a place within it on, fewer where the object or the volume ends
 abbrev pub object_part : List Run → ℕ → ℕ → ℕ → List ℕ → List ℕ
 object_part runs size at n file = bytes_at file (take n (drop at (object_places runs size)))
-
--- the blocks that so many bytes take
-abbrev pub blocks_for : ℕ → ℕ
-blocks_for size = (size + 4095) / 4096
-
--- the runs of an object of this size: none is empty or begins where the one before it ends, and their blocks are as many as it takes
-pub record AreRunsOf (runs : List Run) (size : ℕ) : Type 0 where
-  pub maximal : AreMaximal runs
-  pub count : sum_by (λ run. run.count) runs ≡ blocks_for size
 
 -- the bytes before the limit stay, but for those in these blocks
 pub record Spares (blocks : List ℕ) (limit : ℕ) (old new : List ℕ) : Type 0 where

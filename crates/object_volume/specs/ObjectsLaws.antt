@@ -7,22 +7,11 @@ use Rattle.std.proofs.lemmas.List.Concat.{flat_map-append}
 use Rattle.std.proofs.lemmas.Bool.{cases_lt}
 use Rattle.site_disk.specs.Bytes.{extent, Apart}
 use Rattle.block_chain.specs.Blocks.{times, ascending, AreApart}
-use Rattle.block_chain.specs.BlocksLaws.{times-append, times_head, times-tail, times_below, times_above, length-ascending}
+use Rattle.block_chain.specs.BlocksLaws.{ascending-append, times-append, times_head, times-tail, times_below, times_above, length-ascending}
+use Rattle.block_chain.specs.Table.{Table, AreListed}
 use Rattle.object_volume.specs.Objects.{place_of, places, followed_by, bytes_at, Spares}
 
 -- places in ascending order
-
-pub ascending-append : (first m n : ℕ) → ascending first (m + n) ≡ ascending first m ++ ascending (first + m) n
-unfolding ascending
-ascending-append first zero n =
-    let counted : 0 + n ≡ n = omega arith in
-    let placed : first ≡ first + 0 = omega arith in
-    ap (λ (k : ℕ). ascending first k) counted ∙ ap (λ (k : ℕ). ascending k n) placed
-ascending-append first (suc m) n =
-    let counted : suc m + n ≡ suc (m + n) = omega arith in
-    let placed : suc first + m ≡ first + suc m = omega arith in
-    ap (λ (k : ℕ). ascending first k) counted
-    ∙ ap (λ (l : List ℕ). first ∷ l) (ascending-append (suc first) m n ∙ ap (λ (k : ℕ). ascending (suc first) m ++ ascending k n) placed)
 
 pub drop-ascending : (k first n : ℕ) → drop k (ascending first n) ≡ ascending (first + k) (n - k)
 unfolding ascending
@@ -208,15 +197,14 @@ spares_less blocks more limit lower old new within le spares = record {
   no_shorter = spares.no_shorter;
 }
 
--- blocks apart from them read as before, where all that is read was there
-pub spared_at : (own blocks ps : List ℕ) (limit : ℕ) (old new : List ℕ) → Spares own limit old new → AreApart own blocks → length old ≤ limit
-    → ((at : ℕ) → 0 < times at ps → 0 < times at (places blocks)) → length (bytes_at old ps) ≡ length ps → bytes_at new ps ≡ bytes_at old ps
-spared_at own blocks ps limit old new spares apart le among whole =
+-- places in blocks apart from them read as before, where each is below the limit
+pub spared_below : (own blocks ps : List ℕ) (limit : ℕ) (old new : List ℕ) → Spares own limit old new → AreApart own blocks → ((at : ℕ) → 0 < times at ps → at < limit)
+    → ((at : ℕ) → 0 < times at ps → 0 < times at (places blocks)) → bytes_at new ps ≡ bytes_at old ps
+spared_below own blocks ps limit old new spares apart below among =
     bytes_at-same old new ps
     (λ at some.
-    let there : at < length old = place_there old ps whole at some in
     let within = place_within at blocks (among at some) in
-    spares.kept at (omega (arith, there, le)) (λ block taken. two_blocks block within.0 at within.2 within.3 (λ e. absurd (omega (arith, within.1, apart within.0 (subst (λ (b : ℕ). 0 < times b own) e taken))))))
+    spares.kept at (below at some) (λ block taken. two_blocks block within.0 at within.2 within.3 (λ e. absurd (omega (arith, within.1, apart within.0 (subst (λ (b : ℕ). 0 < times b own) e taken))))))
   where
     two_blocks : (a b at : ℕ) → place_of b ≤ at → at < place_of b + 4096 → (a ≡ b → ⊥) → Apart (place_of a) 4096 at 1
     two_blocks a b at from to other = ⊎_elim
@@ -227,13 +215,24 @@ spared_at own blocks ps limit old new spares apart le among whole =
         (cases_lt a b))
         (cases_lt b a)
 
+-- the first bytes of some blocks, as those of an object
+pub spared_front : (own blocks : List ℕ) (n limit : ℕ) (old new : List ℕ) → Spares own limit old new → AreApart own blocks
+    → ((at : ℕ) → 0 < times at (take n (places blocks)) → at < limit) → bytes_at new (take n (places blocks)) ≡ bytes_at old (take n (places blocks))
+spared_front own blocks n limit old new spares apart below =
+    spared_below own blocks (take n (places blocks)) limit old new spares apart below (λ at some. omega (arith, some, times-take at n (places blocks)))
+
 -- the whole of some blocks
 pub spared_blocks : (own blocks : List ℕ) (limit : ℕ) (old new : List ℕ) → Spares own limit old new → AreApart own blocks → length old ≤ limit
     → length (bytes_at old (places blocks)) ≡ length (places blocks) → bytes_at new (places blocks) ≡ bytes_at old (places blocks)
-spared_blocks own blocks limit old new spares apart le whole = spared_at own blocks (places blocks) limit old new spares apart le (λ at some. some) whole
+spared_blocks own blocks limit old new spares apart le whole =
+    spared_below own blocks (places blocks) limit old new spares apart (λ at some. omega (arith, place_there old (places blocks) whole at some, le)) (λ at some. some)
 
--- the first bytes of some blocks, as those of an object
-pub spared_front : (own blocks : List ℕ) (n limit : ℕ) (old new : List ℕ) → Spares own limit old new → AreApart own blocks → length old ≤ limit
-    → length (bytes_at old (take n (places blocks))) ≡ length (take n (places blocks)) → bytes_at new (take n (places blocks)) ≡ bytes_at old (take n (places blocks))
-spared_front own blocks n limit old new spares apart le whole =
-    spared_at own blocks (take n (places blocks)) limit old new spares apart le (λ at some. omega (arith, some, times-take at n (places blocks))) whole
+-- live blocks are neither those of the object that is being sent nor free ones
+pub live_are_apart : (table : Table) (sent xs : List ℕ) → AreListed table xs → AreApart sent xs → AreApart (sent ++ table.free) xs
+live_are_apart table sent xs listed apart block some = ⊎_elim
+    (λ (own : 0 < times block sent). apart block own)
+    (λ (none : times block sent ≤ 0). ⊎_elim
+    (λ (live : 0 < times block xs). absurd (omega (arith, none, some, times-append block sent table.free, listed.1.taken block (subst (λ (l : List ℕ). 0 < times block l) (sym listed.2) live))))
+    (λ (not_live : times block xs ≤ 0). omega (arith, not_live))
+    (cases_lt 0 (times block xs)))
+    (cases_lt 0 (times block sent))

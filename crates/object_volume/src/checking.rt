@@ -26,9 +26,9 @@ fn hash_range<D: Disk>(
     requires era { MayUse era.now (D.ledger disk.old) }
     requires fits { place + len < 2 ^ 64 }
     requires some { 0 < length buffer.old }
-    ensures whole { IsTrue D.tells → IfOk result (λ whole.
+    ensures whole { IsTrue D.is_modelled → IfOk result (λ whole.
         IsTrue whole ↔ (length (extent place len (D.bytes disk.old)) ≡ len)) }
-    ensures hashed { IsTrue D.tells → IfOk result (λ whole. IsTrue whole → (message : List ℕ)
+    ensures hashed { IsTrue D.is_modelled → IfOk result (λ whole. IsTrue whole → (message : List ℕ)
         → Holds256 hasher.old message → Holds256 hasher.new (message ++ extent place len (D.bytes disk.old))) }
     ensures bytes { OnOk result (D.bytes disk.new ≡ D.bytes disk.old) }
     ensures images { OnOk result (Unchanged (D.image disk.old) (D.image disk.new)) }
@@ -60,7 +60,7 @@ pub(crate) fn check_object<D: Disk>(
 ) -> Result<Soundness, Failed>
     requires era { MayUse era.now (D.ledger disk.old) }
     requires some { 0 < length buffer.old }
-    ensures judged { IsTrue D.tells
+    ensures judged { IsTrue D.is_modelled
         → IfOk result (Judges (object runs.now size (D.bytes disk.old)) size digest.now) }
     ensures damaged { IfOk result (IsDamaged digest.now) }
     ensures bytes { OnOk result (D.bytes disk.new ≡ D.bytes disk.old) }

@@ -14,7 +14,7 @@ mod volume;
 mod writing;
 
 pub use faults::{SendFault, Sent, Soundness, VolumeFault};
-pub use laws::spared_objects_read_the_same;
+pub use laws::{live_blocks_are_apart, spared_objects_read_the_same};
 pub use volume::Volume;
 
 #[cfg(test)]

@@ -31,8 +31,8 @@ fn read_piece<D: Disk>(
     requires era { MayUse era.now (D.ledger disk.old) }
     requires room { at + n ≤ length into.old }
     ensures bound { IfOk result (λ got. got ≤ n) }
-    ensures count { IsTrue D.tells → IfOk result (λ got. got ≡ length (extent place n (D.bytes disk.old))) }
-    ensures found { IsTrue D.tells → IfOk result (λ got.
+    ensures count { IsTrue D.is_modelled → IfOk result (λ got. got ≡ length (extent place n (D.bytes disk.old))) }
+    ensures found { IsTrue D.is_modelled → IfOk result (λ got.
         take (at + got) into.new ≡ take at into.old ++ extent place n (D.bytes disk.old)) }
     ensures rest { IfOk result (λ got. drop (at + got) into.new ≡ drop (at + got) into.old) }
     ensures bytes { OnOk result (D.bytes disk.new ≡ D.bytes disk.old) }
@@ -56,9 +56,9 @@ pub(crate) fn read_object<D: Disk>(
 ) -> Result<usize, Failed>
     requires era { MayUse era.now (D.ledger disk.old) }
     ensures bound { IfOk result (λ n. n ≤ min (length into.old) (size - at)) }
-    ensures count { IsTrue D.tells → IfOk result (λ n.
+    ensures count { IsTrue D.is_modelled → IfOk result (λ n.
         n ≡ length (object_part runs.now size at (length into.old) (D.bytes disk.old))) }
-    ensures found { IsTrue D.tells → IfOk result (λ n.
+    ensures found { IsTrue D.is_modelled → IfOk result (λ n.
         take n into.new ≡ object_part runs.now size at (length into.old) (D.bytes disk.old)) }
     ensures rest { IfOk result (λ n. drop n into.new ≡ drop n into.old) }
     ensures bytes { OnOk result (D.bytes disk.new ≡ D.bytes disk.old) }

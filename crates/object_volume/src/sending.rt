@@ -5,7 +5,8 @@ ghost use Rattle.site_disk.specs.Images.{Leaves, OnlyAfter};
 ghost use Rattle.site_disk.specs.Ledger.{MayUse, Uses};
 ghost use Rattle.block_chain.specs.Table.{Table, blocks_of, IsListOf};
 ghost use Rattle.block_chain.specs.declared.lists.BlockList.{BlockList as List-of-blocks};
-ghost use Rattle.object_volume.specs.Objects.{place_of, blocks_for, Spares};
+ghost use Rattle.block_chain.specs.Blocks.{blocks_for};
+ghost use Rattle.object_volume.specs.Objects.{place_of, Spares};
 ghost use Rattle.object_volume.specs.Taking.{Takes, TakesFor};
 ghost use Rattle.object_volume.specs.Sending.{part_block, Stored, IsSent, Finished, part_end};
 
@@ -54,26 +55,26 @@ fn fill_part<D: Disk>(
     reached: &mut u64,
 ) -> Result<usize, Failed>
     requires era { MayUse era.now (D.ledger disk.old) }
-    requires reached { IsTrue D.tells → reached.old ≤ length (D.bytes disk.old) }
+    requires reached { IsTrue D.is_modelled → reached.old ≤ length (D.bytes disk.old) }
     requires part { length part.old ≡ 4096 }
     requires filled { filled < 4096 }
-    ensures reached { IsTrue D.tells → OnOk result (reached.new ≤ length (D.bytes disk.new)) }
+    ensures reached { IsTrue D.is_modelled → OnOk result (reached.new ≤ length (D.bytes disk.new)) }
     ensures taken { IfOk result (λ n. n ≤ length bytes.now) }
     ensures within { IfOk result (λ n. filled + n ≤ 4096) }
     ensures none { filled ≡ 0 → IfOk result (λ n. n ≡ 0) }
     ensures even { IfOk result (λ n. (n ≡ length bytes.now) ⊎ ((filled + n) % 4096 ≡ 0)) }
     ensures stored { (table : Table) (list : List-of-blocks) (message : List ℕ) → filled ≡ length message % 4096
-        → Stored D.tells (D.bytes disk.old) table list last part.old message → IfOk result (λ n.
-        Stored D.tells (D.bytes disk.new) table list last part.new (message ++ take n bytes.now)) }
-    ensures spared { IsTrue D.tells → OnOk result
+        → Stored D.is_modelled (D.bytes disk.old) table list last part.old message → IfOk result (λ n.
+        Stored D.is_modelled (D.bytes disk.new) table list last part.new (message ++ take n bytes.now)) }
+    ensures spared { IsTrue D.is_modelled → OnOk result
         (Spares (last ∷ []) (length (D.bytes disk.old)) (D.bytes disk.old) (D.bytes disk.new)) }
-    ensures crash { IsTrue D.tells → Leaves era.now.number
+    ensures crash { IsTrue D.is_modelled → Leaves era.now.number
         (Spares (last ∷ []) (length (D.bytes disk.old))) (D.image disk.old) (D.image disk.new) }
     ensures unused { filled ≡ 0 → disk.new ≡ disk.old }
     ensures ledger { Uses era.now 0 (place_of last + 4096) (D.ledger disk.old) (D.ledger disk.new) }
-    ensures bound { IsTrue D.tells → place_of last ≤ length (D.bytes disk.old) → IfOk result (λ n.
+    ensures bound { IsTrue D.is_modelled → place_of last ≤ length (D.bytes disk.old) → IfOk result (λ n.
         (D.ledger disk.new).written ≤ (D.ledger disk.old).written + 4096 * ((filled + n) / 4096)) }
-    ensures most { IsTrue D.tells → place_of last ≤ length (D.bytes disk.old)
+    ensures most { IsTrue D.is_modelled → place_of last ≤ length (D.bytes disk.old)
         → (D.ledger disk.new).written ≤ (D.ledger disk.old).written + 4096 * ((filled + length bytes.now) / 4096) }
     ensures cause { HasCause (D.ledger disk.old).faults (D.ledger disk.new).faults result }
 {
@@ -125,19 +126,19 @@ fn put_rest<D: Disk>(
     requires own { IsListOf chains.old object.old.list }
     requires part { length part.old ≡ 4096 }
     requires room { length bytes.now ≤ 4096 * length chains.old.free }
-    requires reached { IsTrue D.tells → object.old.reached ≤ length (D.bytes disk.old) }
-    ensures reached { IsTrue D.tells → OnOk result (object.new.reached ≤ length (D.bytes disk.new)) }
+    requires reached { IsTrue D.is_modelled → object.old.reached ≤ length (D.bytes disk.old) }
+    ensures reached { IsTrue D.is_modelled → OnOk result (object.new.reached ≤ length (D.bytes disk.new)) }
     ensures same { OnOk result ((object.new.size ≡ object.old.size) × (object.new.hasher ≡ object.old.hasher)) }
     ensures taken { OnOk result (TakesFor chains.old chains.new object.old.list object.new.list (blocks_for (length bytes.now))) }
     ensures stored { (message : List ℕ) → (length message % 4096 ≡ 0) ⊎ (length bytes.now ≡ 0)
-        → Stored D.tells (D.bytes disk.old) chains.old object.old.list object.old.last part.old message
-        → OnOk result (Stored D.tells (D.bytes disk.new) chains.new object.new.list object.new.last part.new (message ++ bytes.now)) }
-    ensures spared { IsTrue D.tells → OnOk result
+        → Stored D.is_modelled (D.bytes disk.old) chains.old object.old.list object.old.last part.old message
+        → OnOk result (Stored D.is_modelled (D.bytes disk.new) chains.new object.new.list object.new.last part.new (message ++ bytes.now)) }
+    ensures spared { IsTrue D.is_modelled → OnOk result
         (Spares chains.old.free (length (D.bytes disk.old)) (D.bytes disk.old) (D.bytes disk.new)) }
-    ensures crash { IsTrue D.tells → Leaves era.now.number
+    ensures crash { IsTrue D.is_modelled → Leaves era.now.number
         (Spares chains.old.free (length (D.bytes disk.old))) (D.image disk.old) (D.image disk.new) }
     ensures ledger { Uses era.now 0 (length bytes.now / 4096 * place_of chains.old.blocks) (D.ledger disk.old) (D.ledger disk.new) }
-    ensures bound { IsTrue D.tells → place_of chains.old.blocks ≤ length (D.bytes disk.old)
+    ensures bound { IsTrue D.is_modelled → place_of chains.old.blocks ≤ length (D.bytes disk.old)
         → (D.ledger disk.new).written ≤ (D.ledger disk.old).written + 4096 * (length bytes.now / 4096) }
     ensures cause { HasCause (D.ledger disk.old).faults (D.ledger disk.new).faults result }
 {
@@ -173,9 +174,9 @@ pub(crate) fn send_piece<D: Disk>(
     requires era { MayUse era.now (D.ledger disk.old) }
     requires part { length part.old ≡ 4096 }
     requires small { chains.old.blocks ≤ 1048576 }
-    requires begun { (message : List ℕ) × IsSent D.tells (D.bytes disk.old) chains.old object.old part.old message }
-    ensures sent { (message : List ℕ) → IsSent D.tells (D.bytes disk.old) chains.old object.old part.old message
-        → OnOk result (IsSent D.tells (D.bytes disk.new) chains.new object.new part.new (message ++ bytes.now)) }
+    requires begun { (message : List ℕ) × IsSent D.is_modelled (D.bytes disk.old) chains.old object.old part.old message }
+    ensures sent { (message : List ℕ) → IsSent D.is_modelled (D.bytes disk.old) chains.old object.old part.old message
+        → OnOk result (IsSent D.is_modelled (D.bytes disk.new) chains.new object.new part.new (message ++ bytes.now)) }
     ensures taken { OnOk result (TakesFor chains.old chains.new object.old.list object.new.list
         (blocks_for (object.old.size + length bytes.now) - blocks_for object.old.size)) }
     ensures store_full { IsErrOf result SendFault.StoreFull
@@ -183,12 +184,12 @@ pub(crate) fn send_piece<D: Disk>(
     ensures refused { IsErrOf result SendFault.StoreFull → (disk.new ≡ disk.old) × (chains.new ≡ chains.old)
         × (object.new ≡ object.old) × (part.new ≡ part.old) }
     ensures failed { IsErrOf result SendFault.Failed → Rose (D.ledger disk.old).faults (D.ledger disk.new).faults }
-    ensures spared { IsTrue D.tells → OnOk result
+    ensures spared { IsTrue D.is_modelled → OnOk result
         (Spares (blocks_of chains.old object.old.list ++ chains.old.free) (length (D.bytes disk.old)) (D.bytes disk.old) (D.bytes disk.new)) }
-    ensures crash { IsTrue D.tells → Leaves era.now.number
+    ensures crash { IsTrue D.is_modelled → Leaves era.now.number
         (Spares (blocks_of chains.old object.old.list ++ chains.old.free) (length (D.bytes disk.old))) (D.image disk.old) (D.image disk.new) }
     ensures ledger { Uses era.now 0 ((1 + length bytes.now / 4096) * place_of chains.old.blocks) (D.ledger disk.old) (D.ledger disk.new) }
-    ensures bound { IsTrue D.tells → place_of chains.old.blocks ≤ length (D.bytes disk.old) → (D.ledger disk.new).written
+    ensures bound { IsTrue D.is_modelled → place_of chains.old.blocks ≤ length (D.bytes disk.old) → (D.ledger disk.new).written
         ≤ (D.ledger disk.old).written + 4096 * ((object.old.size % 4096 + length bytes.now) / 4096) }
 {
     let blocks = (object.size + bytes.len() as u64).div_ceil(4096) - object.size.div_ceil(4096);
@@ -215,8 +216,8 @@ pub(crate) fn send_piece<D: Disk>(
 fn write_part<D: Disk>(disk: &mut D, era: &Era, last: u32, piece: &[u8]) -> Result<(), Failed>
     requires era { MayUse era.now (D.ledger disk.old) }
     requires few { length piece.now < 4096 }
-    ensures finished { IsTrue D.tells → OnOk result (Finished last piece.now (D.bytes disk.old) (D.bytes disk.new)) }
-    ensures crash { IsTrue D.tells → Leaves era.now.number
+    ensures finished { IsTrue D.is_modelled → OnOk result (Finished last piece.now (D.bytes disk.old) (D.bytes disk.new)) }
+    ensures crash { IsTrue D.is_modelled → Leaves era.now.number
         (Spares (part_block piece.now last) (length (D.bytes disk.old))) (D.image disk.old) (D.image disk.new) }
     ensures ledger { Uses era.now 0 (part_end piece.now last) (D.ledger disk.old) (D.ledger disk.new) }
     ensures cause { HasCause (D.ledger disk.old).faults (D.ledger disk.new).faults result }
@@ -236,9 +237,9 @@ pub(crate) fn finish<D: Disk>(
 ) -> Result<(), Failed>
     requires era { MayUse era.now (D.ledger disk.old) }
     requires few { length piece.now < 4096 }
-    ensures finished { IsTrue D.tells → OnOk result (Finished last piece.now (D.bytes disk.old) (D.bytes disk.new)) }
-    ensures durable { IsTrue D.tells → OnOk result (OnlyAfter era.now.number (D.bytes disk.new) (D.image disk.new)) }
-    ensures crash { IsTrue D.tells → Leaves era.now.number
+    ensures finished { IsTrue D.is_modelled → OnOk result (Finished last piece.now (D.bytes disk.old) (D.bytes disk.new)) }
+    ensures durable { IsTrue D.is_modelled → OnOk result (OnlyAfter era.now.number (D.bytes disk.new) (D.image disk.new)) }
+    ensures crash { IsTrue D.is_modelled → Leaves era.now.number
         (Spares (part_block piece.now last) (length (D.bytes disk.old))) (D.image disk.old) (D.image disk.new) }
     ensures ledger { Uses era.now 0 (part_end piece.now last) (D.ledger disk.old) (D.ledger disk.new) }
     ensures cause { HasCause (D.ledger disk.old).faults (D.ledger disk.new).faults result }

@@ -1,13 +1,13 @@
 //! A volume of objects.
-ghost use Rattle.std.specs.Prelude.{◌≡◌, ◌≢◌, ◌+◌, ◌-◌, ◌*◌, ◌/◌, ◌%◌, ◌<◌, ◌≤◌, ◌↔◌, ◌==◌, ◌⊎◌, ℕ, List, [], ◌∷◌, ◌++◌, length, take, drop, filter, min, All, IsTrue, Some, IfSome, IfOk, IfErr, OnOk, IsErrOf};
+ghost use Rattle.std.specs.Prelude.{◌≡◌, ◌≢◌, ◌+◌, ◌-◌, ◌*◌, ◌/◌, ◌%◌, ◌<◌, ◌≤◌, ◌↔◌, ◌==◌, ◌⊎◌, ℕ, List, [], ◌∷◌, ◌++◌, length, take, drop, filter, min, All, IsTrue, Some, IfSome, IfOk, IfErr, OnOk, OnErr, IsErrOf};
 ghost use Rattle.site_disk.specs.Bytes.{written, Same};
 ghost use Rattle.site_disk.specs.Causes.{Rose, HasCause};
 ghost use Rattle.site_disk.specs.Images.{Leaves, OnlyAfter, Unchanged};
 ghost use Rattle.site_disk.specs.Ledger.{MayUse, Uses};
 ghost use Rattle.site_headers.specs.Headers.{volume_tail, IsVolumeSize};
-ghost use Rattle.block_chain.specs.Blocks.{times, ascending, blocks_of_runs, blocks_of_lists, AreApart, ArePartition, RefusesFirst};
+ghost use Rattle.block_chain.specs.Blocks.{times, ascending, blocks_of_runs, blocks_of_lists, AreApart, ArePartition, RefusesFirst, blocks_for};
 ghost use Rattle.sha2.specs.Sha256.{sha256};
-ghost use Rattle.object_volume.specs.Objects.{place_of, object, object_part, blocks_for, AreRunsOf, Spares};
+ghost use Rattle.object_volume.specs.Objects.{place_of, object, object_part, Spares};
 ghost use Rattle.object_volume.specs.Answers.{Judges, IsDamaged, Describes, IsEndFault};
 ghost use Rattle.object_volume.specs.Headers.{HasVolume, HasNoVolume, MayFormat, Overlaps};
 
@@ -34,12 +34,12 @@ fn blocks_named<D: Disk>(
     site: u64,
 ) -> Result<Option<u32>, Failed>
     requires { MayUse era.now (D.ledger disk.old) }
-    ensures found { IsTrue D.tells → IfOk result (λ named. IfSome named (λ blocks. HasVolume number site blocks (D.bytes disk.old))) }
+    ensures found { IsTrue D.is_modelled → IfOk result (λ named. IfSome named (λ blocks. HasVolume number site blocks (D.bytes disk.old))) }
     ensures small { IfOk result (λ named. IfSome named (λ blocks. blocks ≤ 1048576)) }
-    ensures only { IsTrue D.tells → (blocks : ℕ) → HasVolume number site blocks (D.bytes disk.old)
+    ensures only { IsTrue D.is_modelled → (blocks : ℕ) → HasVolume number site blocks (D.bytes disk.old)
         → IfOk result (λ named. named ≡ Some blocks) }
     ensures bytes { OnOk result (D.bytes disk.new ≡ D.bytes disk.old) }
-    ensures durable { IsTrue D.tells → OnOk result (OnlyAfter era.now.number (D.bytes disk.new) (D.image disk.new)) }
+    ensures durable { IsTrue D.is_modelled → OnOk result (OnlyAfter era.now.number (D.bytes disk.new) (D.image disk.new)) }
     ensures crash { Leaves era.now.number Same (D.image disk.old) (D.image disk.new) }
     ensures ledger { Uses era.now 4096 0 (D.ledger disk.old) (D.ledger disk.new) }
     ensures cause { HasCause (D.ledger disk.old).faults (D.ledger disk.new).faults result }
@@ -103,18 +103,18 @@ impl<D: Disk> Volume<D> {
         requires era { MayUse era.now (D.ledger (disk_of self.old)) }
         requires size { IsVolumeSize blocks }
 
-        ensures written { IsTrue D.tells → OnOk result (D.bytes (disk_of self.new)
+        ensures written { IsTrue D.is_modelled → OnOk result (D.bytes (disk_of self.new)
             ≡ written 0 (1 ∷ volume_tail (number_of self.old) site blocks) (D.bytes (disk_of self.old))) }
-        ensures header { IsTrue D.tells
+        ensures header { IsTrue D.is_modelled
             → OnOk result (HasVolume (number_of self.old) site blocks (D.bytes (disk_of self.new))) }
-        ensures durable { IsTrue D.tells
+        ensures durable { IsTrue D.is_modelled
             → OnOk result (OnlyAfter era.now.number (D.bytes (disk_of self.new)) (D.image (disk_of self.new))) }
         ensures volume { self.new ≡ with_disk self.old (disk_of self.new) }
 
-        ensures crash { IsTrue D.tells → Leaves era.now.number (MayFormat (volume_tail (number_of self.old) site blocks))
+        ensures crash { IsTrue D.is_modelled → Leaves era.now.number (MayFormat (volume_tail (number_of self.old) site blocks))
             (D.image (disk_of self.old)) (D.image (disk_of self.new)) }
         // Where a crash at entry left a blank volume, one in the call leaves a blank or the whole one.
-        ensures blank_or_whole { IsTrue D.tells → ((bytes : List ℕ)
+        ensures blank_or_whole { IsTrue D.is_modelled → ((bytes : List ℕ)
             → D.image (disk_of self.old) era.now.number bytes → HasNoVolume (number_of self.old) site bytes)
             → (f : ℕ) (bytes : List ℕ) → era.now.number ≤ f → D.image (disk_of self.new) f bytes
             → HasNoVolume (number_of self.old) site bytes ⊎ HasVolume (number_of self.old) site blocks bytes }
@@ -129,15 +129,31 @@ impl<D: Disk> Volume<D> {
         header_open(&mut self.disk, era, &page)
     }
 
+    /// Syncs the disk, so that crash images of later eras are what a read gives: a command begins with it.
+    pub fn sync(&mut self, era: &Era) -> Result<(), Failed>
+        requires { MayUse era.now (D.ledger (disk_of self.old)) }
+
+        ensures volume { self.new ≡ with_disk self.old (disk_of self.new) }
+        ensures bytes { OnOk result (D.bytes (disk_of self.new) ≡ D.bytes (disk_of self.old)) }
+        ensures durable { IsTrue D.is_modelled
+            → OnOk result (OnlyAfter era.now.number (D.bytes (disk_of self.new)) (D.image (disk_of self.new))) }
+        ensures crash { Leaves era.now.number Same (D.image (disk_of self.old)) (D.image (disk_of self.new)) }
+        ensures synced { OnOk result ((D.ledger (disk_of self.new)).synced ≡ era.now.number) }
+        ensures ledger { Uses era.now 0 0 (D.ledger (disk_of self.old)) (D.ledger (disk_of self.new)) }
+        ensures cause { HasCause (D.ledger (disk_of self.old)).faults (D.ledger (disk_of self.new)).faults result }
+    {
+        self.disk.sync(era)
+    }
+
     /// Opens the volume of the site with this id, after a sync. The blocks of the live objects are taken, and all
-    /// others are free, in ascending order.
+    /// others are free, in ascending order. A volume that isn't opened stays as it was.
     pub fn open(&mut self, era: &Era, site: u64, live: &[Vec<Run>]) -> Result<(), VolumeFault>
         requires { MayUse era.now (D.ledger (disk_of self.old)) }
 
         ensures opened { OnOk result (IsOpen self.new) }
         ensures idle { OnOk result (IsIdle self.new) }
         ensures number { number_of self.new ≡ number_of self.old }
-        ensures header { IsTrue D.tells → OnOk result
+        ensures header { IsTrue D.is_modelled → OnOk result
             (HasVolume (number_of self.old) site (blocks_in self.new) (D.bytes (disk_of self.old))) }
         ensures free { OnOk result (free_of self.new
             ≡ filter (λ block. times block (blocks_of_lists live.now) == 0) (ascending 0 (blocks_in self.new))) }
@@ -145,27 +161,36 @@ impl<D: Disk> Volume<D> {
         ensures parted { OnOk result (ArePartition (blocks_in self.new) (free_of self.new ++ blocks_of_lists live.now)) }
 
         // The header is read first. The block that is named is the first, in the order of the lists.
-        ensures no_header { IsTrue D.tells → IsErrOf result VolumeFault.NoHeader → (blocks : ℕ)
+        ensures no_header { IsTrue D.is_modelled → IsErrOf result VolumeFault.NoHeader → (blocks : ℕ)
             → HasVolume (number_of self.old) site blocks (D.bytes (disk_of self.old)) → ⊥ }
         ensures overlap { (block : ℕ) → IsErrOf result (VolumeFault.Overlap block)
-            → Overlaps D.tells (number_of self.old) site (D.bytes (disk_of self.old)) (blocks_of_lists live.now) block }
+            → Overlaps D.is_modelled (number_of self.old) site (D.bytes (disk_of self.old)) (blocks_of_lists live.now) block }
         ensures failed { IsErrOf result VolumeFault.Failed
             → Rose (D.ledger (disk_of self.old)).faults (D.ledger (disk_of self.new)).faults }
 
+        // Want of memory comes only where the header was found.
+        ensures memory { IsTrue D.is_modelled → IsErrOf result VolumeFault.OutOfMemory → (blocks : ℕ)
+            × HasVolume (number_of self.old) site blocks (D.bytes (disk_of self.old)) }
+
+        ensures refused { OnErr result (self.new ≡ with_disk self.old (disk_of self.new)) }
+        ensures no_header_bytes { IsErrOf result VolumeFault.NoHeader → D.bytes (disk_of self.new) ≡ D.bytes (disk_of self.old) }
+        ensures overlap_bytes { (block : ℕ) → IsErrOf result (VolumeFault.Overlap block)
+            → D.bytes (disk_of self.new) ≡ D.bytes (disk_of self.old) }
+        ensures memory_bytes { IsErrOf result VolumeFault.OutOfMemory → D.bytes (disk_of self.new) ≡ D.bytes (disk_of self.old) }
+
         ensures bytes { OnOk result (D.bytes (disk_of self.new) ≡ D.bytes (disk_of self.old)) }
-        ensures durable { IsTrue D.tells
+        ensures durable { IsTrue D.is_modelled
             → OnOk result (OnlyAfter era.now.number (D.bytes (disk_of self.new)) (D.image (disk_of self.new))) }
         ensures crash { Leaves era.now.number Same (D.image (disk_of self.old)) (D.image (disk_of self.new)) }
         ensures ledger { Uses era.now 4096 0 (D.ledger (disk_of self.old)) (D.ledger (disk_of self.new)) }
     {
-        self.chains = None;
-        self.object = None;
         let Some(blocks) = blocks_named(&mut self.disk, era, self.number, site)? else {
             return Err(VolumeFault::NoHeader);
         };
         match Chains::new(self.alloc, blocks, live) {
             Ok(chains) => {
                 self.chains = Some(chains);
+                self.object = None;
                 Ok(())
             }
             Err(ChainFault::Overlap { block }) => Err(VolumeFault::Overlap { block }),
@@ -178,8 +203,8 @@ impl<D: Disk> Volume<D> {
         requires opened { IsOpen self.old }
         requires idle { IsIdle self.old }
 
-        ensures sends { Sends D.tells D.bytes self.new [] }
-        ensures begun { IsSending D.tells D.bytes self.new }
+        ensures sends { Sends D.is_modelled D.bytes self.new [] }
+        ensures begun { IsSending D.is_modelled D.bytes self.new }
         ensures opened { IsOpen self.new }
         ensures disk { disk_of self.new ≡ disk_of self.old }
         ensures number { number_of self.new ≡ number_of self.old }
@@ -201,37 +226,37 @@ impl<D: Disk> Volume<D> {
     pub fn send(&mut self, era: &Era, bytes: &[u8]) -> Result<(), SendFault>
         requires era { MayUse era.now (D.ledger (disk_of self.old)) }
         requires opened { IsOpen self.old }
-        requires begun { IsSending D.tells D.bytes self.old }
+        requires begun { IsSending D.is_modelled D.bytes self.old }
 
-        ensures sends { (message : List ℕ) → Sends D.tells D.bytes self.old message
-            → OnOk result (Sends D.tells D.bytes self.new (message ++ bytes.now)) }
-        ensures begun { OnOk result (IsSending D.tells D.bytes self.new) }
+        ensures sends { (message : List ℕ) → Sends D.is_modelled D.bytes self.old message
+            → OnOk result (Sends D.is_modelled D.bytes self.new (message ++ bytes.now)) }
+        ensures begun { OnOk result (IsSending D.is_modelled D.bytes self.new) }
         ensures opened { OnOk result (IsOpen self.new) }
-        ensures number { OnOk result (number_of self.new ≡ number_of self.old) }
+        ensures number { number_of self.new ≡ number_of self.old }
 
         // The piece takes the first free blocks.
-        ensures taken { (message : List ℕ) → Sends D.tells D.bytes self.old message → OnOk result (Grows self.old self.new
+        ensures taken { (message : List ℕ) → Sends D.is_modelled D.bytes self.old message → OnOk result (Grows self.old self.new
             (blocks_for (length message + length bytes.now) - blocks_for (length message))) }
         ensures live { (runs : List Run) → IsLive self.old runs → OnOk result (IsLive self.new runs) }
 
-        ensures store_full { (message : List ℕ) → Sends D.tells D.bytes self.old message
+        ensures store_full { (message : List ℕ) → Sends D.is_modelled D.bytes self.old message
             → IsErrOf result SendFault.StoreFull
             ↔ (length (free_of self.old) < blocks_for (length message + length bytes.now) - blocks_for (length message)) }
         ensures refused { IsErrOf result SendFault.StoreFull → self.new ≡ self.old }
         ensures failed { IsErrOf result SendFault.Failed
             → Rose (D.ledger (disk_of self.old)).faults (D.ledger (disk_of self.new)).faults }
 
-        ensures spared { IsTrue D.tells → OnOk result (Spares (open_blocks self.old) (length (D.bytes (disk_of self.old)))
+        ensures spared { IsTrue D.is_modelled → OnOk result (Spares (open_blocks self.old) (length (D.bytes (disk_of self.old)))
             (D.bytes (disk_of self.old)) (D.bytes (disk_of self.new))) }
-        ensures crash { IsTrue D.tells → Leaves era.now.number
+        ensures crash { IsTrue D.is_modelled → Leaves era.now.number
             (Spares (open_blocks self.old) (length (D.bytes (disk_of self.old))))
             (D.image (disk_of self.old)) (D.image (disk_of self.new)) }
 
         ensures ledger { Uses era.now 0 ((1 + length bytes.now / 4096) * place_of (blocks_in self.old))
             (D.ledger (disk_of self.old)) (D.ledger (disk_of self.new)) }
         // Where the volume has its whole length, the blocks that fill are written and nothing else.
-        ensures bound { IsTrue D.tells → place_of (blocks_in self.old) ≤ length (D.bytes (disk_of self.old))
-            → (message : List ℕ) → Sends D.tells D.bytes self.old message → (D.ledger (disk_of self.new)).written
+        ensures bound { IsTrue D.is_modelled → place_of (blocks_in self.old) ≤ length (D.bytes (disk_of self.old))
+            → (message : List ℕ) → Sends D.is_modelled D.bytes self.old message → (D.ledger (disk_of self.new)).written
             ≤ (D.ledger (disk_of self.old)).written + 4096 * ((length message % 4096 + length bytes.now) / 4096) }
     {
         let Some(chains) = &mut self.chains else {
@@ -250,17 +275,17 @@ impl<D: Disk> Volume<D> {
     pub fn end(&mut self, era: &Era) -> Result<Sent, VolumeFault>
         requires era { MayUse era.now (D.ledger (disk_of self.old)) }
         requires opened { IsOpen self.old }
-        requires begun { IsSending D.tells D.bytes self.old }
+        requires begun { IsSending D.is_modelled D.bytes self.old }
 
-        ensures sent { (message : List ℕ) → Sends D.tells D.bytes self.old message → IfOk result (Describes message) }
-        ensures stands { IsTrue D.tells → (message : List ℕ) → Sends D.tells D.bytes self.old message
+        ensures sent { (message : List ℕ) → Sends D.is_modelled D.bytes self.old message → IfOk result (Describes message) }
+        ensures stands { IsTrue D.is_modelled → (message : List ℕ) → Sends D.is_modelled D.bytes self.old message
             → IfOk result (λ sent. object sent.runs.items sent.size (D.bytes (disk_of self.new)) ≡ message) }
-        ensures durable { IsTrue D.tells
+        ensures durable { IsTrue D.is_modelled
             → OnOk result (OnlyAfter era.now.number (D.bytes (disk_of self.new)) (D.image (disk_of self.new))) }
 
         ensures opened { OnOk result (IsOpen self.new) }
         ensures idle { OnOk result (IsIdle self.new) }
-        ensures number { OnOk result (number_of self.new ≡ number_of self.old) }
+        ensures number { number_of self.new ≡ number_of self.old }
         ensures listed { IfOk result (λ sent. blocks_of_runs sent.runs.items ≡ blocks_sent self.old) }
         ensures live { IfOk result (λ sent. IsLive self.new sent.runs.items) }
         ensures others { (runs : List Run) → IsLive self.old runs → OnOk result (IsLive self.new runs) }
@@ -271,9 +296,9 @@ impl<D: Disk> Volume<D> {
             → Rose (D.ledger (disk_of self.old)).faults (D.ledger (disk_of self.new)).faults }
         ensures only { IfErr result IsEndFault }
 
-        ensures spared { IsTrue D.tells → OnOk result (Spares (open_blocks self.old) (length (D.bytes (disk_of self.old)))
+        ensures spared { IsTrue D.is_modelled → OnOk result (Spares (open_blocks self.old) (length (D.bytes (disk_of self.old)))
             (D.bytes (disk_of self.old)) (D.bytes (disk_of self.new))) }
-        ensures crash { IsTrue D.tells → Leaves era.now.number
+        ensures crash { IsTrue D.is_modelled → Leaves era.now.number
             (Spares (open_blocks self.old) (length (D.bytes (disk_of self.old))))
             (D.image (disk_of self.old)) (D.image (disk_of self.new)) }
         ensures ledger { Uses era.now 0 (place_of (blocks_in self.old)) (D.ledger (disk_of self.old)) (D.ledger (disk_of self.new)) }
@@ -297,7 +322,7 @@ impl<D: Disk> Volume<D> {
     /// Gives the blocks of the object back, behind the free ones. Nothing is written.
     pub fn cancel(&mut self)
         requires opened { IsOpen self.old }
-        requires begun { IsSending D.tells D.bytes self.old }
+        requires begun { IsSending D.is_modelled D.bytes self.old }
 
         ensures opened { IsOpen self.new }
         ensures idle { IsIdle self.new }
@@ -326,7 +351,7 @@ impl<D: Disk> Volume<D> {
         ensures opened { IsOpen self.new }
         ensures disk { disk_of self.new ≡ disk_of self.old }
         ensures number { number_of self.new ≡ number_of self.old }
-        ensures sends { (message : List ℕ) → Sends D.tells D.bytes self.old message → Sends D.tells D.bytes self.new message }
+        ensures sends { (message : List ℕ) → Sends D.is_modelled D.bytes self.old message → Sends D.is_modelled D.bytes self.new message }
         ensures idle { IsIdle self.old → IsIdle self.new }
         ensures free { free_of self.new ≡ free_of self.old ++ blocks_of_runs runs.now }
         ensures blocks { blocks_in self.new ≡ blocks_in self.old }
@@ -357,9 +382,9 @@ impl<D: Disk> Volume<D> {
         requires { MayUse era.now (D.ledger (disk_of self.old)) }
 
         ensures bound { IfOk result (λ n. n ≤ min (length into.old) (size - at)) }
-        ensures count { IsTrue D.tells → IfOk result (λ n.
+        ensures count { IsTrue D.is_modelled → IfOk result (λ n.
             n ≡ length (object_part runs.now size at (length into.old) (D.bytes (disk_of self.old)))) }
-        ensures found { IsTrue D.tells → IfOk result (λ n.
+        ensures found { IsTrue D.is_modelled → IfOk result (λ n.
             take n into.new ≡ object_part runs.now size at (length into.old) (D.bytes (disk_of self.old))) }
         ensures rest { IfOk result (λ n. drop n into.new ≡ drop n into.old) }
 
@@ -385,7 +410,7 @@ impl<D: Disk> Volume<D> {
     ) -> Result<Soundness, Failed>
         requires { MayUse era.now (D.ledger (disk_of self.old)) }
 
-        ensures judged { IsTrue D.tells
+        ensures judged { IsTrue D.is_modelled
             → IfOk result (Judges (object runs.now size (D.bytes (disk_of self.old))) size digest.now) }
         ensures damaged { IfOk result (IsDamaged digest.now) }
 

@@ -10,17 +10,17 @@ ghost use Rattle.object_volume.specs.Taking.{Takes, PutsBlocks};
 
 use crate::reading::{BLOCK_LEN, place_of};
 use block_chain::{BlockList, Chains};
-use site_disk::{Disk, Era, Failed, reach};
+use site_disk::{Disk, Era, Failed, extend_to};
 
 // Fills with zero bytes up to a place. The disk is asked for its length only where it isn't known to reach the place.
 fn reach_from<D: Disk>(disk: &mut D, era: &Era, reached: u64, place: u64) -> Result<(), Failed>
     requires era { MayUse era.now (D.ledger disk.old) }
-    requires reached { IsTrue D.tells → reached ≤ length (D.bytes disk.old) }
-    ensures filled { IsTrue D.tells → OnOk result (D.bytes disk.new ≡ filled place (D.bytes disk.old)) }
-    ensures reaches { IsTrue D.tells → OnOk result (place ≤ length (D.bytes disk.new)) }
-    ensures crash { IsTrue D.tells → let first = min place (length (D.bytes disk.old)) in
+    requires reached { IsTrue D.is_modelled → reached ≤ length (D.bytes disk.old) }
+    ensures filled { IsTrue D.is_modelled → OnOk result (D.bytes disk.new ≡ filled place (D.bytes disk.old)) }
+    ensures reaches { IsTrue D.is_modelled → OnOk result (place ≤ length (D.bytes disk.new)) }
+    ensures crash { IsTrue D.is_modelled → let first = min place (length (D.bytes disk.old)) in
         Leaves era.now.number (Torn first (place - first)) (D.image disk.old) (D.image disk.new) }
-    ensures nothing { IsTrue D.tells → place ≤ length (D.bytes disk.old)
+    ensures nothing { IsTrue D.is_modelled → place ≤ length (D.bytes disk.old)
         → Uses era.now 0 0 (D.ledger disk.old) (D.ledger disk.new) }
     ensures ledger { Uses era.now 0 place (D.ledger disk.old) (D.ledger disk.new) }
     ensures cause { HasCause (D.ledger disk.old).faults (D.ledger disk.new).faults result }
@@ -28,7 +28,7 @@ fn reach_from<D: Disk>(disk: &mut D, era: &Era, reached: u64, place: u64) -> Res
     if place <= reached {
         return Ok(());
     }
-    reach(disk, era, place)
+    extend_to(disk, era, place)
 }
 
 /// Writes a piece at a place, after zero bytes up to it where the volume ends before it. `reached` is a place that the
@@ -41,14 +41,14 @@ pub(crate) fn write_run<D: Disk>(
     reached: &mut u64,
 ) -> Result<(), Failed>
     requires era { MayUse era.now (D.ledger disk.old) }
-    requires reached { IsTrue D.tells → reached.old ≤ length (D.bytes disk.old) }
-    ensures reached { IsTrue D.tells → OnOk result (reached.new ≤ length (D.bytes disk.new)) }
-    ensures bytes { IsTrue D.tells
+    requires reached { IsTrue D.is_modelled → reached.old ≤ length (D.bytes disk.old) }
+    ensures reached { IsTrue D.is_modelled → OnOk result (reached.new ≤ length (D.bytes disk.new)) }
+    ensures bytes { IsTrue D.is_modelled
         → OnOk result (D.bytes disk.new ≡ written place piece.now (filled place (D.bytes disk.old))) }
-    ensures crash { IsTrue D.tells → Leaves era.now.number
+    ensures crash { IsTrue D.is_modelled → Leaves era.now.number
         (Outside place (length piece.now) (length (D.bytes disk.old))) (D.image disk.old) (D.image disk.new) }
     ensures ledger { Uses era.now 0 (place + length piece.now) (D.ledger disk.old) (D.ledger disk.new) }
-    ensures bound { IsTrue D.tells → place ≤ length (D.bytes disk.old)
+    ensures bound { IsTrue D.is_modelled → place ≤ length (D.bytes disk.old)
         → (D.ledger disk.new).written ≤ (D.ledger disk.old).written + length piece.now }
     ensures cause { HasCause (D.ledger disk.old).faults (D.ledger disk.new).faults result }
 {
@@ -79,17 +79,17 @@ pub(crate) fn write_blocks<D: Disk>(
     reached: &mut u64,
 ) -> Result<(), Failed>
     requires era { MayUse era.now (D.ledger disk.old) }
-    requires reached { IsTrue D.tells → reached.old ≤ length (D.bytes disk.old) }
+    requires reached { IsTrue D.is_modelled → reached.old ≤ length (D.bytes disk.old) }
     requires own { IsListOf chains.old list.old }
     requires whole { length piece.now % 4096 ≡ 0 }
     requires room { length piece.now ≤ 4096 * length chains.old.free }
-    ensures reached { IsTrue D.tells → OnOk result (reached.new ≤ length (D.bytes disk.new)) }
-    ensures put { OnOk result (PutsBlocks D.tells (D.bytes disk.old) (D.bytes disk.new)
+    ensures reached { IsTrue D.is_modelled → OnOk result (reached.new ≤ length (D.bytes disk.new)) }
+    ensures put { OnOk result (PutsBlocks D.is_modelled (D.bytes disk.old) (D.bytes disk.new)
         chains.old chains.new list.old list.new piece.now) }
-    ensures crash { IsTrue D.tells → Leaves era.now.number
+    ensures crash { IsTrue D.is_modelled → Leaves era.now.number
         (Spares chains.old.free (length (D.bytes disk.old))) (D.image disk.old) (D.image disk.new) }
     ensures ledger { Uses era.now 0 (length piece.now / 4096 * place_of chains.old.blocks) (D.ledger disk.old) (D.ledger disk.new) }
-    ensures bound { IsTrue D.tells → place_of chains.old.blocks ≤ length (D.bytes disk.old)
+    ensures bound { IsTrue D.is_modelled → place_of chains.old.blocks ≤ length (D.bytes disk.old)
         → (D.ledger disk.new).written ≤ (D.ledger disk.old).written + length piece.now }
     ensures cause { HasCause (D.ledger disk.old).faults (D.ledger disk.new).faults result }
 {

@@ -8,7 +8,7 @@ use Rattle.object_volume.proofs.sending.put_rest.Goals as goal
 pub returns-clause-taken : goal.returns-clause-taken
 returns-clause-taken g c =
     let bytes = c.args.bytes.now in
-    takes_for c.args.chains.now c.write_blocks.new.chains c.keep_part.new.chains c.args.object.now.list c.write_blocks.new.list c.keep_part.new.list g.D.Disk.tells
+    takes_for c.args.chains.now c.write_blocks.new.chains c.keep_part.new.chains c.args.object.now.list c.write_blocks.new.list c.keep_part.new.list g.D.Disk.is_modelled
     (g.D.Disk.bytes c.args.disk.now) (g.D.Disk.bytes c.write_blocks.new.disk) bytes (length bytes - length bytes % 4096) c.keep_part.new.last refl
     c.in_ok-write_blocks.ensures.put c.keep_part.ensures.takes
 

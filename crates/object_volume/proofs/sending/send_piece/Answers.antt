@@ -125,7 +125,7 @@ returns-clause-sent g c message is =
     (λ (all : n ≡ length bytes). inr (omega (arith, length-take (length bytes - n) (drop n bytes), all)))
     (λ (full : (c.args.object.now.size % 4096 + n) % 4096 ≡ 0). inl (aligned c.args.object.now.size n message bytes is.size filled.taken full)) filled.even in
     record {
-      stored = subst (λ (m : List ℕ). Stored g.D.Disk.tells (g.D.Disk.bytes c.put_rest.new.disk) c.put_rest.new.chains c.put_rest.new.object.list c.put_rest.new.object.last c.put_rest.new.part m)
+      stored = subst (λ (m : List ℕ). Stored g.D.Disk.is_modelled (g.D.Disk.bytes c.put_rest.new.disk) c.put_rest.new.chains c.put_rest.new.object.list c.put_rest.new.object.last c.put_rest.new.part m)
           (piece_sent message bytes n filled.taken) (c.in_ok-put_rest.ensures.stored (message ++ take n bytes) case front);
       hashed = c.update.ensures message (subst (λ h. Holds256 h message) (sym same.1) is.hashed);
       size = ap (λ (k : ℕ). k + length bytes) (same.0 ∙ is.size) ∙ sym (length-append message bytes);

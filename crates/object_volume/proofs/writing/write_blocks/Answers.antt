@@ -138,7 +138,7 @@ returns-clause-put g c =
     let slice = take (length piece - c.loop-at.from) (drop c.loop-at.from piece) in
     let both = length-flushed so_far new slice cut in
     let whole : take c.loop-at.at piece ≡ piece = take_all c.loop-at.at piece (omega (arith, c.loop-at-test.false)) in
-    put_all c.write_run-2.result g.D.Disk.tells (so_far.done ++ so_far.run) so_far.takes (omega (arith, so_far.upto, both, so_far.within, c.loop-at-test.false))
+    put_all c.write_run-2.result g.D.Disk.is_modelled (so_far.done ++ so_far.run) so_far.takes (omega (arith, so_far.upto, both, so_far.within, c.loop-at-test.false))
     (λ tells wrote. flushed_stands so_far new slice cut tells (λ t. wrote) ∙ whole) (λ tells wrote. flushed_spares so_far new slice cut tells (λ t. wrote)) c.write_run-2.ensures.bytes
 
 pub returns-clause-crash : goal.returns-clause-crash
@@ -161,5 +161,5 @@ empty piece b is holds = nothing piece (eqb-true (length piece) 0 (sym is ∙ ho
 
 pub returns-then-is_empty-clause-put : goal.returns-then-is_empty-clause-put
 returns-then-is_empty-clause-put g c =
-    puts_nothing g.D.Disk.tells (g.D.Disk.bytes c.args.disk.now) c.args.chains.now c.args.list.now c.args.piece.now c.requires.own
+    puts_nothing g.D.Disk.is_modelled (g.D.Disk.bytes c.args.disk.now) c.args.chains.now c.args.list.now c.args.piece.now c.requires.own
     (empty c.args.piece.now c.is_empty.result c.is_empty.ensures c.if-is_empty.true)

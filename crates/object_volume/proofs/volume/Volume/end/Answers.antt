@@ -12,7 +12,8 @@ use Rattle.object_volume.specs.Volumes.{table_or_none, blocks_or_none, open_bloc
 use Rattle.object_volume.proofs.OutsideLemmas.{writes_again, after_call}
 use Rattle.object_volume.proofs.VolumeLemmas.{same_table}
 use Rattle.object_volume.proofs.SendingLemmas.{among_left, object_stands}
-use Rattle.object_volume.proofs.EndingLemmas.{length-blocks_of_runs, part_kept, part_before_end, blocks_are, part_among}
+use Rattle.block_chain.specs.RunLaws.{length-blocks_of_runs}
+use Rattle.object_volume.proofs.EndingLemmas.{part_kept, part_before_end, blocks_are, part_among}
 use Rattle.object_volume.proofs.volume.Volume.end.Goals as goal
 
 -- the object that is being sent, and its table
@@ -93,6 +94,7 @@ returns-clause-sent g c message s =
       size = sent.size;
       digest = c.finalize.ensures message sent.hashed;
       runs = record {
+        fit = c.in_ok-runs.ensures.fit;
         maximal = c.in_ok-runs.ensures.maximal;
         count = sym (length-blocks_of_runs c.in_ok-runs.runs.items) ∙ ap length c.in_ok-runs.ensures.runs ∙ blocks_are sent.stored;
       };

@@ -5,7 +5,8 @@ use Rattle.block_chain.specs.Table.{Table, blocks_of, IsListOf, AreListed}
 use Rattle.object_volume.specs.declared.sending.Sending.{Sending}
 use Rattle.object_volume.specs.Sending.{IsSent}
 use Rattle.object_volume.specs.Volumes.{blocks_or_none}
-use Rattle.object_volume.proofs.VolumeLemmas.{apart_back, same_table, kept_listed, kept_sent, kept_is_sent}
+use Rattle.block_chain.specs.BlocksLaws.{apart_back}
+use Rattle.object_volume.proofs.VolumeLemmas.{same_table, kept_listed, kept_sent, kept_is_sent}
 use Rattle.object_volume.proofs.volume.Volume.release.Goals as goal
 
 pub returns-clause-sends : goal.returns-clause-sends
@@ -21,7 +22,7 @@ returns-clause-sends g c message s =
       object = s.object;
       begun = s.begun;
       sent = kept_is_sent old c.give_back.new.self own c.give_back.ensures.others
-          (subst (λ (t : Table). IsSent g.D.Disk.tells (g.D.Disk.bytes volume.disk) t s.object volume.part message) e s.sent)
+          (subst (λ (t : Table). IsSent g.D.Disk.is_modelled (g.D.Disk.bytes volume.disk) t s.object volume.part message) e s.sent)
           (subst (λ (x : Option Sending). AreApart own (blocks_or_none old x)) s.begun apart);
     }
 

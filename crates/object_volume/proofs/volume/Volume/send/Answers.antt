@@ -1,10 +1,10 @@
 use Rattle.std.proofs.Common.{◌≡◌, ℕ, ◌+◌, ◌-◌, ◌*◌, ◌/◌, ◌%◌, ◌≤◌, List, ◌++◌, length, ap, sym, ◌∙◌, subst, refl, arith, Option}
 use Rattle.std.proofs.lemmas.Option.{same_Some}
 use Rattle.site_disk.specs.CallsLaws.{on_ok}
-use Rattle.block_chain.specs.Blocks.{AreApart, ArePartition, blocks_of_runs}
+use Rattle.block_chain.specs.Blocks.{AreApart, ArePartition, blocks_of_runs, blocks_for}
 use Rattle.block_chain.specs.Table.{Table, blocks_of, IsListOf, AreListed}
 use Rattle.object_volume.specs.declared.sending.Sending.{Sending}
-use Rattle.object_volume.specs.Objects.{place_of, blocks_for}
+use Rattle.object_volume.specs.Objects.{place_of}
 use Rattle.object_volume.specs.Sending.{IsSent}
 use Rattle.object_volume.specs.Volumes.{blocks_or_none, blocks_sent}
 use Rattle.object_volume.proofs.VolumeLemmas.{same_table, live_listed, live_apart}
@@ -69,8 +69,8 @@ returns-clause-begun g c =
     on_ok c.send_piece.result
     (λ sent. record { message = begun.message ++ c.args.bytes.now; sends = record { object = c.send_piece.new.object; begun = refl; sent = sent } })
     (c.send_piece.ensures.sent begun.message
-    (subst (λ (o : Sending). IsSent g.D.Disk.tells (g.D.Disk.bytes volume.disk) c.in-Some.chains o volume.part begun.message) (same_Some begun.sends.object object (sym begun.sends.begun ∙ c.in-Some-object.is))
-    (subst (λ (t : Table). IsSent g.D.Disk.tells (g.D.Disk.bytes volume.disk) t begun.sends.object volume.part begun.message) (same_table volume.chains c.in-Some.chains c.in-Some.is) begun.sends.sent)))
+    (subst (λ (o : Sending). IsSent g.D.Disk.is_modelled (g.D.Disk.bytes volume.disk) c.in-Some.chains o volume.part begun.message) (same_Some begun.sends.object object (sym begun.sends.begun ∙ c.in-Some-object.is))
+    (subst (λ (t : Table). IsSent g.D.Disk.is_modelled (g.D.Disk.bytes volume.disk) t begun.sends.object volume.part begun.message) (same_table volume.chains c.in-Some.chains c.in-Some.is) begun.sends.sent)))
 
 pub returns-clause-bound : goal.returns-clause-bound
 returns-clause-bound g c tells full message s =
