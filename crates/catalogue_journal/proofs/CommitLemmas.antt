@@ -6,19 +6,30 @@ use Rattle.std.specs.List.{AllByRecursion, flat_map}
 use Rattle.std.proofs.lemmas.List.{length-append, length-take, length-drop, append_assoc, append-nil}
 use Rattle.std.proofs.lemmas.List.Concat.{flat_map-append}
 use Rattle.std.proofs.lemmas.List.Sums.{sum_by-cons}
+use Rattle.site_disk.specs.CallsLaws.{uses_more}
 use Rattle.site_disk.specs.Images.{Leaves, OnlyAfter}
+use Rattle.site_disk.specs.SeenLaws.{synced_after}
 use Rattle.site_disk.specs.ImagesLaws.{weaker}
 use Rattle.site_disk.specs.Ledger.{EraView, Ledger, Uses}
 use Rattle.gated_slots.specs.Slots.{Area, SlotsView, used, held, place_of, Gains, MayGain, Reaches}
 use Rattle.gated_slots.specs.SlotsLaws.{length-held}
 use Rattle.catalogue_slots.specs.Records.{Object, Record, add, more, del, base, IsRecord, slots_for, records_of}
 use Rattle.catalogue_slots.specs.Layout.{spelling}
-use Rattle.catalogue_journal.specs.Contents.{Contents, Addition, IsAddition, object_with, objects_from, has_copy, without, without_all, AreLive, blocks_in, blocks_for, ended, slots_wanted}
-use Rattle.catalogue_journal.specs.Journal.{Rest, State, fresh, with_runs, may_continue, continued, taken, next, after, follow, contents_of}
-use Rattle.catalogue_journal.specs.Places.{area_of, slots_on, Journals, MayEnd}
+use Rattle.block_chain.specs.Blocks.{blocks_in, blocks_for}
+use Rattle.catalogue_replay.specs.Contents.{Contents, AreRising, has_copy, without}
+use Rattle.catalogue_journal.specs.Transactions.{Addition, IsAddition, object_with, objects_from, without_all, AreLive, ended, slots_wanted}
+use Rattle.catalogue_replay.specs.Journal.{Rest, State, fresh, with_runs, may_continue, continued, taken, next, after, follow, contents_of}
+use Rattle.catalogue_replay.specs.Places.{area_of, slots_on, Journals}
+use Rattle.catalogue_journal.specs.Commits.{MayEnd}
 use Rattle.catalogue_journal.specs.Batches.{IsBatch}
+use Rattle.std.specs.List.Sorted.{IsPermutation}
+use Rattle.catalogue_slots.specs.Views.{object_of}
+use Rattle.catalogue_slots.specs.declared.entry.ObjectEntry.{ObjectEntry}
+use Rattle.catalogue_journal.proofs.DeletionLemmas.{without_all-permutation}
 use Rattle.catalogue_journal.proofs.EntryLemmas.{length-batch, empty_transaction}
-use Rattle.catalogue_journal.proofs.EndingLemmas.{follow-append, follow-more, follow_dels, follow_object}
+use Rattle.catalogue_replay.proofs.FollowLemmas.{follow-append}
+use Rattle.catalogue_replay.proofs.SameLemmas.{kept}
+use Rattle.catalogue_journal.proofs.EndingLemmas.{follow-more, follow_dels, follow_object}
 
 -- the last copy id is at least that of the last Add
 with_runs_keeps : (s : State) (count : ℕ) (object : Object) (t : State) → with_runs s count object ≡ Some t → (t.added ≡ s.added) × (t.last ≡ s.last)
@@ -175,27 +186,6 @@ gained capacity copies additions before old new batch is gains stands reaches =
     contents_are : (state : State) (contents : Contents) → state.last ≡ contents.last → state.objects ≡ contents.objects → contents_of state ≡ contents
     contents_are state contents a b = rw (a, b) refl
 
--- the journal stays where its slots do
-pub kept : (capacity : ℕ) (contents : Contents) (old new : List ℕ) → used (area_of capacity) new ≡ used (area_of capacity) old
-    → held (area_of capacity) new ≡ held (area_of capacity) old → length old ≤ length new → Journals (area_of capacity) contents old → Journals (area_of capacity) contents new
-kept capacity contents old new same slots longer stands =
-    let area : Area = area_of capacity in
-    let all : stands.state.read ≡ used area new = stands.all ∙ sym same in
-    record {
-      state = stands.state;
-      reads = record {
-        records = stands.reads.records;
-        each = stands.reads.each;
-        count = stands.reads.count;
-        spelled = ap (λ (k : ℕ). take (4096 * k) (slots_on new)) all ∙ slots ∙ ap (λ (k : ℕ). take (4096 * k) (slots_on old)) (sym stands.all) ∙ stands.reads.spelled;
-        read = ap (λ (k : ℕ). follow k fresh stands.reads.records) same ∙ stands.reads.read;
-      };
-      all = all;
-      whole = stands.whole;
-      same = stands.same;
-      reaches = omega (arith, stands.reaches, longer, ap (λ (k : ℕ). 4096 * k) same);
-    }
-
 -- a batch that was gained stands whole
 gains_long : (capacity n : ℕ) (old new batch : List ℕ) → length batch ≡ 4096 * n → Gains (area_of capacity) n batch old new
     → place_of (area_of capacity) (used (area_of capacity) old) ≤ length old → place_of (area_of capacity) (used (area_of capacity) new) ≤ length new
@@ -246,61 +236,48 @@ reaches_next capacity contents view bytes is now stands =
     let count : used (area_of capacity) bytes ≡ view.used = ap (λ (a : Area). used a bytes) (sym is) ∙ now in
     subst (λ (a : Area). place_of a view.used ≤ length bytes) (sym is) (subst (λ (k : ℕ). place_of (area_of capacity) k ≤ length bytes) count stands.reaches)
 
--- images of the eras behind the last one used are those of all later eras
-pub only_later : (last e : ℕ) (bytes : List ℕ) (image : ℕ → List ℕ → Type 0) → OnlyAfter e bytes image → last ≤ e
-    → ((f g : ℕ) (c : List ℕ) → last ≤ f → last < g → image g c → image f c) → (f : ℕ) (c : List ℕ) → last < f → image f c → c ≡ bytes
-only_later last e bytes image only le counts f c lt here = only (e + 1) c (omega arith) (counts (e + 1) f c (omega (arith, le)) lt here)
+-- a batch that is seen through a slice
+pub seen : {copies : List ℕ} {additions : List Addition} {before : Contents} {batch piece : List ℕ} → IsBatch copies additions before batch → piece ≡ batch → IsBatch copies additions before piece
+seen {copies = copies} {additions = additions} {before = before} is same = subst (λ (l : List ℕ). IsBatch copies additions before l) (sym same) is
 
-pub uses_more : {era : EraView} {reads writes more : ℕ} {old new : Ledger} → Uses era reads writes old new → writes ≤ more → Uses era reads more old new
-uses_more uses le = record {
-  key = uses.key;
-  no_earlier = uses.no_earlier;
-  no_later = uses.no_later;
-  faults = uses.faults;
-  read = uses.read;
-  written = omega (arith, uses.written, le);
-  synced = uses.synced;
-}
+pub batch_count : {copies : List ℕ} {additions : List Addition} {before : Contents} {batch : List ℕ} → IsBatch copies additions before batch → length batch / 4096 ≡ slots_wanted copies additions
+batch_count {copies = copies} {additions = additions} {before = before} {batch = batch} is = omega (arith, length-batch copies additions before batch is)
 
-module _ (capacity : ℕ) (copies : List ℕ) (additions : List Addition) (before : Contents) (batch : List ℕ) (is : IsBatch copies additions before batch)
-    (view : SlotsView) (area_is : view.area ≡ area_of capacity) where
-  pub batch_count : length batch / 4096 ≡ slots_wanted copies additions
-  batch_count = omega (arith, length-batch copies additions before batch is)
-
+module _ {capacity : ℕ} {copies : List ℕ} {additions : List Addition} {before : Contents} {batch : List ℕ} (is : IsBatch copies additions before batch) (view : SlotsView)
+    (area_is : view.area ≡ area_of capacity) where
   -- where its slots agree with the disk
-  module _ (old : List ℕ) (now : used view.area old ≡ view.used) (stands : Journals (area_of capacity) before old) where
-    pub batch_ended : (new : List ℕ) → (Reaches view old → Gains view.area (length batch / 4096) batch old new) → Journals (area_of capacity) (ended copies additions before) new
-    batch_ended new gains =
+  module _ {old : List ℕ} (now : used view.area old ≡ view.used) (stands : Journals (area_of capacity) before old) where
+    reaches : Reaches view old
+    reaches = reaches_next capacity before view old area_is now stands
+
+    pub batch_ended : {new : List ℕ} → (Reaches view old → Gains view.area (length batch / 4096) batch old new) → Journals (area_of capacity) (ended copies additions before) new
+    batch_ended {new = new} gains =
         ended_journal capacity copies additions before old new batch is
         (subst (λ (a : Area). Gains a (slots_wanted copies additions) batch old new) area_is
-        (subst (λ (k : ℕ). Gains view.area k batch old new) batch_count (gains (reaches_next capacity before view old area_is now stands)))) stands
+        (subst (λ (k : ℕ). Gains view.area k batch old new) (batch_count is) (gains reaches))) stands
 
-    pub batch_stops : (e : ℕ) (images after : ℕ → List ℕ → Type 0) → (Reaches view old → Leaves e (MayGain view.area (length batch / 4096) batch) images after)
+    pub batch_stops : {e : ℕ} {images after : ℕ → List ℕ → Type 0} → (Reaches view old → Leaves e (MayGain view.area (length batch / 4096) batch) images after)
         → Leaves e (MayEnd (area_of capacity) before (ended copies additions before)) images after
-    batch_stops e images after call =
-        weaker (MayEnd (area_of capacity) before (ended copies additions before)) (MayGain view.area (length batch / 4096) batch) e images images after
-        (call (reaches_next capacity before view old area_is now stands))
+    batch_stops {e = e} {images = images} {after = after} call =
+        weaker (MayEnd (area_of capacity) before (ended copies additions before)) (MayGain view.area (length batch / 4096) batch) e images images after (call reaches)
         (λ f d c lt image may. may_end capacity copies additions before d c batch is
-        (subst (λ (a : Area). MayGain a (slots_wanted copies additions) batch d c) area_is (subst (λ (k : ℕ). MayGain view.area k batch d c) batch_count may)))
+        (subst (λ (a : Area). MayGain a (slots_wanted copies additions) batch d c) area_is (subst (λ (k : ℕ). MayGain view.area k batch d c) (batch_count is) may)))
 
     pub batch_bound : (before_call after_call : ℕ) → (Reaches view old → after_call ≤ before_call + length batch + 1) → after_call ≤ before_call + 4096 * slots_wanted copies additions + 1
-    batch_bound before_call after_call bound =
-        let most : after_call ≤ before_call + length batch + 1 = bound (reaches_next capacity before view old area_is now stands) in
-        omega (arith, most, length-batch copies additions before batch is)
+    batch_bound before_call after_call bound = omega (arith, bound reaches, length-batch copies additions before batch is)
 
     -- what stands after it in every image of later eras
-    pub batch_stands : (e last : ℕ) (new : List ℕ) (image : ℕ → List ℕ → Type 0) → (Reaches view old → Gains view.area (length batch / 4096) batch old new)
+    pub batch_stands : {e last : ℕ} {new : List ℕ} {image : ℕ → List ℕ → Type 0} → (Reaches view old → Gains view.area (length batch / 4096) batch old new)
         → OnlyAfter e new image → last ≤ e → ((f g : ℕ) (c : List ℕ) → last ≤ f → last < g → image g c → image f c)
         → (f : ℕ) (c : List ℕ) → last < f → image f c → Journals (area_of capacity) (ended copies additions before) c
-    batch_stands e last new image gains only le counts f c lt here =
-        subst (λ (l : List ℕ). Journals (area_of capacity) (ended copies additions before) l) (sym (only_later last e new image only le counts f c lt here))
-        (batch_ended new gains)
+    batch_stands {e = e} {last = last} {new = new} {image = image} gains only le counts f c lt here =
+        subst (λ (l : List ℕ). Journals (area_of capacity) (ended copies additions before) l) (sym (synced_after (record { last = last; bytes = new; images = image }) e counts le only f c lt here)) (batch_ended gains)
 
   pub batch_uses : {era : EraView} {before_call after_call : Ledger} → Uses era 0 (place_of view.area view.used + length batch + 1) before_call after_call
       → Uses era 0 (73729 + 4096 * (view.used + slots_wanted copies additions)) before_call after_call
   batch_uses uses =
       let place : place_of view.area view.used ≡ 73728 + 4096 * view.used = ap (λ (a : Area). place_of a view.used) area_is in
-      uses_more uses (omega (arith, place, length-batch copies additions before batch is))
+      uses_more uses (omega arith) (omega (arith, place, length-batch copies additions before batch is))
 
 abbrev pub contents_with : ℕ → List Object → Contents
 contents_with last objects = record { last = last; objects = objects }
@@ -308,15 +285,17 @@ contents_with last objects = record { last = last; objects = objects }
 pub same_contents : (a b : Contents) → a.last ≡ b.last → a.objects ≡ b.objects → a ≡ b
 same_contents a b lasts objects = ap (λ (n : ℕ). contents_with n a.objects) lasts ∙ ap (λ (l : List Object). contents_with b.last l) objects
 
--- the contents that a transaction ends
-pub ended_contents : (copies : List ℕ) (additions : List Addition) (before : Contents) (last : ℕ) (objects others added : List Object) → last ≡ before.last + length additions
-    → objects ≡ without_all copies others ++ added → others ≡ before.objects → added ≡ objects_from (before.last + 1) additions
-    → contents_with last objects ≡ ended copies additions before
-ended_contents copies additions before last objects others added lasts are same new =
-    let first : before.last + 1 ≡ suc before.last = omega arith in
-    same_contents (contents_with last objects) (ended copies additions before) lasts
-    (are ∙ ap (λ (l : List Object). without_all copies l ++ added) same
-    ∙ ap (λ (l : List Object). without_all copies before.objects ++ l) (new ∙ ap (λ (k : ℕ). objects_from k additions) first))
+-- the contents that a transaction ends: what it deletes goes by copy ids in order, what it adds comes behind
+pub ended_contents : (additions : List Addition) (n : ℕ) {copies deletions sorted : List ℕ} {last : ℕ} {xs ys : List ObjectEntry} {objects added : List Object}
+    → last ≡ n + length additions → objects ≡ without_all deletions (map object_of xs) ++ added → deletions ≡ sorted → IsPermutation copies sorted → xs ≡ ys
+    → AreRising 0 (map object_of ys) → added ≡ objects_from (n + 1) additions → contents_with last objects ≡ ended copies additions (contents_with n (map object_of ys))
+ended_contents additions n {copies = copies} {sorted = sorted} {last = last} {xs = xs} {ys = ys} {objects = objects} {added = added} lasts are seen_through same stay rising new =
+    let first : n + 1 ≡ suc n = omega arith in
+    same_contents (contents_with last objects) (ended copies additions (contents_with n (map object_of ys))) lasts
+    (are ∙ ap (λ (l : List ℕ). without_all l (map object_of xs) ++ added) seen_through
+    ∙ ap (λ (l : List ObjectEntry). without_all sorted (map object_of l) ++ added) stay
+    ∙ ap (λ (l : List Object). l ++ added) (without_all-permutation copies sorted ys same rising)
+    ∙ ap (λ (l : List Object). without_all copies (map object_of ys) ++ l) (new ∙ ap (λ (k : ℕ). objects_from k additions) first))
 
 -- an empty transaction ends where it began
 pub ended_empty : (copies : List ℕ) (additions : List Addition) (before : Contents) → slots_wanted copies additions ≡ 0 → before ≡ ended copies additions before

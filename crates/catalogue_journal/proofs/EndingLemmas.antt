@@ -6,21 +6,11 @@ use Rattle.std.proofs.lemmas.List.{length-append, length-take, length-drop, take
 use Rattle.block_chain.specs.Blocks.{AreMaximal}
 use Rattle.block_chain.specs.declared.runs.Run.{Run}
 use Rattle.catalogue_slots.specs.Records.{Object, Record, add, more, del, base, slots_for, mores, records_of}
-use Rattle.catalogue_journal.specs.Contents.{has_copy, without, without_all, AreLive, blocks_for, blocks_in}
-use Rattle.catalogue_journal.specs.Journal.{Rest, State, end_of, begin_of, with_runs, may_continue, taken, next, after, follow}
-
--- records behind others
-pub follow-append : (used : ℕ) (s t : State) (xs ys : List Record) → follow used s xs ≡ Some t → follow used s (xs ++ ys) ≡ follow used t ys
-follow-append used s t [] ys e = ap (λ (o : Option State). next o (λ u. follow used u ys)) e
-follow-append used s t (x ∷ xs) ys e = through (after used s x) e (λ (u : State) (h : follow used u xs ≡ Some t). follow-append used u t xs ys h)
-  where
-    through : (o : Option State) → next o (λ u. follow used u xs) ≡ Some t → ((u : State) → follow used u xs ≡ Some t → follow used u (xs ++ ys) ≡ follow used t ys)
-        → next o (λ u. follow used u (xs ++ ys)) ≡ follow used t ys
-    through None e step = absurd_of e
-      where
-        absurd_of : None ≡ Some t → next None (λ u. follow used u (xs ++ ys)) ≡ follow used t ys
-        absurd_of h = cc
-    through (Some u) e step = step u e
+use Rattle.block_chain.specs.Blocks.{blocks_for, blocks_in}
+use Rattle.catalogue_replay.specs.Contents.{has_copy, without}
+use Rattle.catalogue_journal.specs.Transactions.{without_all, AreLive}
+use Rattle.catalogue_replay.proofs.FollowLemmas.{follow-append}
+use Rattle.catalogue_replay.specs.Journal.{Rest, State, end_of, begin_of, with_runs, may_continue, taken, next, after, follow}
 
 -- a record that may come may come too where more slots are used
 taken-more : (used others : ℕ) (s t : State) (x : Record) → used ≤ others → taken used s x ≡ Some t → taken others s x ≡ Some t

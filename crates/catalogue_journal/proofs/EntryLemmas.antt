@@ -12,8 +12,10 @@ use Rattle.catalogue_slots.specs.Records.{Object, Record, del, IsRecord, IsObjec
 use Rattle.catalogue_slots.specs.Layout.{spelling}
 use Rattle.catalogue_slots.specs.SlotLaws.{records_are_records, length-records_of, length-spellings}
 use Rattle.catalogue_slots.specs.Views.{object_of}
-use Rattle.catalogue_slots.specs.declared.entry.Entry.{Entry}
-use Rattle.catalogue_journal.specs.Contents.{Contents, Addition, IsAddition, object_with, objects_from, has_copy, without, without_all, AreLive, AreRising, ended, slots_wanted}
+use Rattle.catalogue_slots.specs.declared.entry.ObjectEntry.{ObjectEntry}
+use Rattle.catalogue_replay.specs.Contents.{Contents, has_copy, without, AreRising, IsKept, AreContents}
+use Rattle.catalogue_replay.proofs.SoundLemmas.{each-without}
+use Rattle.catalogue_journal.specs.Transactions.{Addition, IsAddition, object_with, objects_from, without_all, AreLive, ended, slots_wanted}
 use Rattle.catalogue_journal.specs.Views.{addition_of}
 use Rattle.catalogue_journal.specs.declared.entries.NewObject.{NewObject}
 use Rattle.catalogue_journal.specs.Batches.{HasFewRuns, IsEntry, slots_of_entries, del_bytes, entry_bytes, batch_bytes, records_of_transaction, IsBatch}
@@ -24,14 +26,14 @@ module _ {X : Type 0} (P : X → Type 0) where
   each-append (x ∷ xs) ys first second = (first.0, each-append xs ys first.1 second)
 
 -- no object has too many runs where all are in so few slots
-pub few_runs : (entries : List Entry) → slots_of_entries entries ≤ 65536 → AllByRecursion HasFewRuns entries
+pub few_runs : (entries : List ObjectEntry) → slots_of_entries entries ≤ 65536 → AllByRecursion HasFewRuns entries
 few_runs [] few = tt
 few_runs (e ∷ entries) few =
-    let sum : slots_of_entries (e ∷ entries) ≡ slots_for (length e.runs.items) + slots_of_entries entries = sum_by-cons (λ (entry : Entry). slots_for (length entry.runs.items)) e entries in
+    let sum : slots_of_entries (e ∷ entries) ≡ slots_for (length e.runs.items) + slots_of_entries entries = sum_by-cons (λ (entry : ObjectEntry). slots_for (length entry.runs.items)) e entries in
     (omega (arith, sum, few), few_runs entries (omega (arith, sum, few)))
 
 -- entries take the slots of their additions
-pub same_slots : (copy : ℕ) (entries : List Entry) (additions : List Addition) → map object_of entries ≡ objects_from copy additions
+pub same_slots : (copy : ℕ) (entries : List ObjectEntry) (additions : List Addition) → map object_of entries ≡ objects_from copy additions
     → slots_of_entries entries ≡ sum_by (λ addition. slots_for (length addition.runs)) additions
 same_slots copy [] [] e = refl
 same_slots copy [] (a ∷ additions) e = cc
@@ -43,13 +45,13 @@ same_slots copy (x ∷ entries) (a ∷ additions) e =
     let slots : slots_for (length x.runs.items) ≡ slots_for (length a.runs) = ap (λ (l : List Run). slots_for (length l)) runs in
     omega (
       arith,
-      sum_by-cons (λ (entry : Entry). slots_for (length entry.runs.items)) x entries,
+      sum_by-cons (λ (entry : ObjectEntry). slots_for (length entry.runs.items)) x entries,
       sum_by-cons (λ (addition : Addition). slots_for (length addition.runs)) a additions,
       slots,
       same_slots (suc copy) entries additions rest,
     )
 
-is_object : (copy : ℕ) (x : Entry) (a : Addition) → object_of x ≡ object_with copy a → IsAddition a → IsEntry x → HasFewRuns x → copy ≤ 2 ^ 48 → IsObject (object_with copy a)
+is_object : (copy : ℕ) (x : ObjectEntry) (a : Addition) → object_of x ≡ object_with copy a → IsAddition a → IsEntry x → HasFewRuns x → copy ≤ 2 ^ 48 → IsObject (object_with copy a)
 is_object copy x a here is fits few le = record {
   copy = le;
   volume = is.volume;
@@ -62,19 +64,22 @@ is_object copy x a here is fits few le = record {
   no_status = refl;
 }
 
--- the records of the additions
-pub additions_are_records : (copy : ℕ) (entries : List Entry) (additions : List Addition) → map object_of entries ≡ objects_from copy additions
+-- the additions as objects
+additions_are_objects : (copy : ℕ) (entries : List ObjectEntry) (additions : List Addition) → map object_of entries ≡ objects_from copy additions
     → AllByRecursion IsAddition additions → AllByRecursion IsEntry entries → AllByRecursion HasFewRuns entries → copy + length additions ≤ 2 ^ 48 + 1
-    → AllByRecursion IsRecord (flat_map records_of (objects_from copy additions))
-additions_are_records copy entries [] e are fit few le = tt
-additions_are_records copy [] (a ∷ additions) e are fit few le = cc
-additions_are_records copy (x ∷ entries) (a ∷ additions) e are fit few le =
+    → AllByRecursion IsObject (objects_from copy additions)
+additions_are_objects copy entries [] e are fit few le = tt
+additions_are_objects copy [] (a ∷ additions) e are fit few le = cc
+additions_are_objects copy (x ∷ entries) (a ∷ additions) e are fit few le =
     let here : object_of x ≡ object_with copy a = cc in
     let rest : map object_of entries ≡ objects_from (suc copy) additions = cc in
-    let whole : IsObject (object_with copy a) = is_object copy x a here are.0 fit.0 few.0 (omega (arith, le)) in
-    each-append IsRecord (records_of (object_with copy a)) (flat_map records_of (objects_from (suc copy) additions))
-    (records_are_records (object_with copy a) whole)
-    (additions_are_records (suc copy) entries additions rest are.1 fit.1 few.1 (omega (arith, le)))
+    (is_object copy x a here are.0 fit.0 few.0 (omega (arith, le)), additions_are_objects (suc copy) entries additions rest are.1 fit.1 few.1 (omega (arith, le)))
+
+-- and their records
+objects_are_records : (objects : List Object) → AllByRecursion IsObject objects → AllByRecursion IsRecord (flat_map records_of objects)
+objects_are_records [] each = tt
+objects_are_records (o ∷ objects) each =
+    each-append IsRecord (records_of o) (flat_map records_of objects) (records_are_records o each.0) (objects_are_records objects each.1)
 
 length-additions : (copy : ℕ) (additions : List Addition)
     → length (flat_map records_of (objects_from copy additions)) ≡ sum_by (λ addition. slots_for (length addition.runs)) additions
@@ -97,14 +102,6 @@ copy_below copy last (o ∷ objects) has below = by (nat_eq o.copy copy) refl ha
     by true e has others = let same : o.copy ≡ copy = eqb-true o.copy copy e in omega (arith, same, below.0)
     by false e has others = others has
 
-pub each-without : (P : Object → Type 0) (copy : ℕ) (objects : List Object) → AllByRecursion P objects → AllByRecursion P (without copy objects)
-each-without P copy [] each = tt
-each-without P copy (o ∷ objects) each = by (nat_eq o.copy copy) (each-without P copy objects each.1)
-  where
-    by : (b : Bool) → AllByRecursion P (without copy objects) → AllByRecursion P (if b then objects else o ∷ without copy objects)
-    by true others = each.1
-    by false others = (each.0, others)
-
 pub each-without_all : (P : Object → Type 0) (copies : List ℕ) (objects : List Object) → AllByRecursion P objects → AllByRecursion P (without_all copies objects)
 each-without_all P [] objects each = each
 each-without_all P (copy ∷ copies) objects each = each-without_all P copies (without copy objects) (each-without P copy objects each)
@@ -121,21 +118,24 @@ deletions_spelled : (copies : List ℕ) → flat_map del_bytes copies ≡ flat_m
 deletions_spelled [] = refl
 deletions_spelled (copy ∷ copies) = ap (λ (l : List ℕ). spelling (del copy) ++ l) (deletions_spelled copies)
 
-entries_spelled : (entries : List Entry) → flat_map entry_bytes entries ≡ flat_map spelling (flat_map records_of (map object_of entries))
+entries_spelled : (entries : List ObjectEntry) → flat_map entry_bytes entries ≡ flat_map spelling (flat_map records_of (map object_of entries))
 entries_spelled [] = refl
 entries_spelled (x ∷ entries) =
     ap (λ (l : List ℕ). flat_map spelling (records_of (object_of x)) ++ l) (entries_spelled entries)
     ∙ sym (flat_map-append spelling (records_of (object_of x)) (flat_map records_of (map object_of entries)))
 
 -- the slots that were laid out are those of the transaction
-pub is_batch : (copies : List ℕ) (additions : List Addition) (before : Contents) (entries : List Entry) (batch : List ℕ) → map object_of entries ≡ objects_from (suc before.last) additions
+pub is_batch : (copies : List ℕ) (additions : List Addition) (before : Contents) (entries : List ObjectEntry) (batch : List ℕ) → map object_of entries ≡ objects_from (suc before.last) additions
     → AllByRecursion IsEntry entries → AllByRecursion HasFewRuns entries → AreLive copies before.objects → AllByRecursion (λ object. object.copy ≤ before.last) before.objects
     → AllByRecursion IsAddition additions → before.last + length additions ≤ 2 ^ 48 → batch ≡ batch_bytes copies entries → IsBatch copies additions before batch
 is_batch copies additions before entries batch are fit few live below each le e =
-    let records : List Record = flat_map records_of (objects_from (suc before.last) additions) in record {
+    let records : List Record = flat_map records_of (objects_from (suc before.last) additions) in
+    let objects : AllByRecursion IsObject (objects_from (suc before.last) additions) = additions_are_objects (suc before.last) entries additions are each fit few (omega (arith, le)) in
+    record {
       each = each-append IsRecord (map del copies) records
           (deletions_are_records copies before.last before.objects live below (omega (arith, le)))
-          (additions_are_records (suc before.last) entries additions are each fit few (omega (arith, le)));
+          (objects_are_records (objects_from (suc before.last) additions) objects);
+      objects = objects;
       count = omega (arith, length-append (map del copies) records, length-map copies del, length-additions (suc before.last) additions);
       spelled = e
           ∙ ap (λ (l : List ℕ). l ++ flat_map entry_bytes entries) (deletions_spelled copies)
@@ -202,6 +202,22 @@ ended_below copies additions before below =
     (below-more before.last end (without_all copies before.objects) (omega arith) (each-without_all (λ (object : Object). object.copy ≤ before.last) copies before.objects below))
     (below-from before.last end additions (omega arith))
 
+additions_kept : (copy : ℕ) (additions : List Addition) → AllByRecursion IsObject (objects_from copy additions) → AllByRecursion IsAddition additions
+    → AllByRecursion IsKept (objects_from copy additions)
+additions_kept copy [] fit each = tt
+additions_kept copy (a ∷ additions) fit each = (record { fits = fit.0; blocks = each.0.blocks }, additions_kept (suc copy) additions fit.1 each.1)
+
+-- what a transaction makes of contents are contents
+pub ended_sound : (copies : List ℕ) (additions : List Addition) (before : Contents) (batch : List ℕ) → IsBatch copies additions before batch → AreContents before
+    → before.last + length additions ≤ 2 ^ 48 → AreContents (ended copies additions before)
+ended_sound copies additions before batch is sound le = record {
+  rising = ended_rising copies additions before sound.rising sound.below;
+  below = ended_below copies additions before sound.below;
+  bound = le;
+  each = each-append IsKept (without_all copies before.objects) (objects_from (suc before.last) additions)
+      (each-without_all IsKept copies before.objects sound.each) (additions_kept (suc before.last) additions is.objects is.additions_are);
+}
+
 -- a transaction that takes no slot is empty
 pub empty_transaction : (copies : List ℕ) (additions : List Addition) → slots_wanted copies additions ≡ 0 → (copies ≡ []) × (additions ≡ [])
 empty_transaction [] [] none = (refl, refl)
@@ -213,7 +229,7 @@ without_all-push [] copy objects = refl
 without_all-push (c ∷ copies) copy objects = without_all-push copies copy (without c objects)
 
 -- the copy ids of entries are those of their objects
-pub entry_copies : (entries : List Entry) → map (λ entry. entry.copy) entries ≡ map (λ (object : Object). object.copy) (map object_of entries)
+pub entry_copies : (entries : List ObjectEntry) → map (λ entry. entry.copy) entries ≡ map (λ (object : Object). object.copy) (map object_of entries)
 entry_copies [] = refl
 entry_copies (x ∷ entries) = ap (λ (l : List ℕ). x.copy ∷ l) (entry_copies entries)
 
@@ -228,3 +244,12 @@ sum-additions (x ∷ objects) =
       sum_by-cons (λ (addition : Addition). slots_for (length addition.runs)) (addition_of x) (map addition_of objects),
       sum-additions objects,
     )
+
+-- objects with the copy ids from one on, and one more
+pub objects_from-push : (copy : ℕ) (additions : List Addition) (addition : Addition)
+    → objects_from copy (additions ++ addition ∷ []) ≡ objects_from copy additions ++ object_with (copy + length additions) addition ∷ []
+objects_from-push copy [] addition = ap (λ (n : ℕ). object_with n addition ∷ []) (omega arith)
+objects_from-push copy (a ∷ more) addition =
+    let place : suc copy + length more ≡ copy + suc (length more) = omega arith in
+    ap (λ (l : List Object). object_with copy a ∷ l)
+    (objects_from-push (suc copy) more addition ∙ ap (λ (n : ℕ). objects_from (suc copy) more ++ object_with n addition ∷ []) place)

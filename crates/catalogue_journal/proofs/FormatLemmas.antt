@@ -10,16 +10,17 @@ use Rattle.site_disk.specs.CallsLaws.{from_known}
 use Rattle.site_disk.specs.Images.{Leaves, OnlyAfter}
 use Rattle.site_disk.specs.ImagesLaws.{weaker}
 use Rattle.gated_slots.specs.Header.{IsHeader, IsClosed, StandsClosed, MayClose, MayOpen}
-use Rattle.gated_slots.specs.HeaderLaws.{closed_no_header, first_by_extent}
+use Rattle.gated_slots.specs.HeaderLaws.{closed_no_header, first_by_extent, extent-header}
 use Rattle.gated_slots.specs.Slots.{used, Zeroes}
 use Rattle.gated_slots.specs.SlotsLaws.{used_by_gates, held_by_slots}
 use Rattle.twin_mark.specs.Marks.{Stores, record_at, record_of}
 use Rattle.site_headers.specs.Headers.{HasHeader}
 use Rattle.site_headers.specs.HeaderLaws.{HasHeader-extent}
-use Rattle.catalogue_journal.specs.Contents.{Contents, empty}
-use Rattle.catalogue_journal.specs.Journal.{fresh}
-use Rattle.catalogue_journal.specs.Places.{area_of, area_record, NamesArea, Journals}
-use Rattle.catalogue_journal.proofs.CommitLemmas.{kept, only_later}
+use Rattle.catalogue_replay.specs.Contents.{Contents, empty}
+use Rattle.catalogue_replay.specs.Journal.{fresh}
+use Rattle.catalogue_replay.specs.Places.{area_of, area_record, NamesArea, Journals}
+use Rattle.catalogue_replay.proofs.SameLemmas.{kept}
+use Rattle.site_disk.specs.SeenLaws.{synced_after}
 use Rattle.catalogue_journal.specs.Formats.{MayUnformat, MayFormat, MayPublish}
 
 -- closed headers
@@ -52,18 +53,18 @@ closed_stored base content old new le closed stores = record {
 }
 
 pub stands_closed : (last e : ℕ) (bytes : List ℕ) (image : ℕ → List ℕ → Type 0) → IsClosed bytes → OnlyAfter e bytes image → last ≤ e
-    → ((f g : ℕ) (c : List ℕ) → last ≤ f → last < g → image g c → image f c) → StandsClosed last bytes image
+    → ((f g : ℕ) (c : List ℕ) → last ≤ f → last < g → image g c → image f c) → StandsClosed (record { last = last; bytes = bytes; images = image })
 stands_closed last e bytes image closed only le counts = record {
   now = closed;
-  later = λ f c lt here. subst IsClosed (sym (only_later last e bytes image only le counts f c lt here)) closed;
+  later = λ f c lt here. subst IsClosed (sym (synced_after (record { last = last; bytes = bytes; images = image }) e counts le only f c lt here)) closed;
 }
 
--- what two facts mean that hold at Ok
-pub on_both : {T E P Q R : Type 0} (result : Result T E) → (P → Q → R) → OnOk result P → OnOk result Q → OnOk result R
-on_both (Ok x) means p q = means p q
-on_both (Err e) means p q = p
-
 -- headers
+
+pub opened_header : (tail page old new : List ℕ) → length tail ≡ 4095 → length page ≡ 4096 → page ≡ 1 ∷ tail → new ≡ written 0 (1 ∷ drop 1 page) old → HasHeader tail new
+opened_header tail page old new fills long is e =
+    subst (HasHeader tail) (sym e)
+    (HasHeader-extent 1 tail (written 0 (1 ∷ drop 1 page) old) (omega arith) fills (extent-header page old long ∙ ap (λ (l : List ℕ). 1 ∷ drop 1 l) is))
 
 positive : (n : ℕ) → (n ≡ 0 → ⊥) → 0 < n
 positive zero isnt = absurd (isnt refl)

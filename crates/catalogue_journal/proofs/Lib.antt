@@ -1,11 +1,7 @@
-pub mod ReplayLemmas
-pub mod FollowLemmas
 pub mod EndingLemmas
 pub mod EntryLemmas
 pub mod CommitLemmas
+pub mod PairLemmas
+pub mod DeletionLemmas
 pub mod SearchLemmas
 pub mod FormatLemmas
-pub mod HeadLemmas
-pub mod OpeningLemmas
-pub mod LiveLemmas
-pub mod TestLemmas

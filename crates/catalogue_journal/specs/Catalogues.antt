@@ -1,11 +1,12 @@
 -- What contracts see of a catalogue.
 use Rattle.std.specs.Prelude.{◌≡◌, ℕ, ◌<◌, ◌≤◌, List, map}
-use Rattle.std.specs.List.{AllByRecursion}
+use Rattle.site_disk.specs.Images.{Seen}
 use Rattle.gated_slots.specs.Slots.{Agrees as SlotsAgree}
 use Rattle.catalogue_slots.specs.Records.{Object}
 use Rattle.catalogue_slots.specs.Views.{object_of}
-use Rattle.catalogue_journal.specs.Contents.{Contents, Addition, AreRising, objects_from, ended, slots_wanted}
-use Rattle.catalogue_journal.specs.Places.{area_of, Journals}
+use Rattle.catalogue_replay.specs.Contents.{Contents, AreContents}
+use Rattle.catalogue_journal.specs.Transactions.{Addition, objects_from, ended, slots_wanted}
+use Rattle.catalogue_replay.specs.Places.{area_of, Journals}
 use Rattle.catalogue_journal.specs.Views.{addition_of}
 use Rattle.catalogue_journal.specs.declared.catalogue.Catalogue.{Catalogue}
 use Rattle.catalogue_journal.specs.declared.entries.Staged.{Staged}
@@ -59,14 +60,21 @@ module _ {D : Type 0} where
     pub some : 2 ≤ catalogue.capacity
     pub few : catalogue.capacity ≤ 65536
 
-  -- it was opened: the copy ids of its objects rise, up to the last one at most
+  -- it was opened: its contents are those that a journal may have
   pub record IsOpen (catalogue : Catalogue D) : Type 0 where
     pub made : IsMade catalogue
-    pub rising : AreRising 0 (objects_of catalogue)
-    pub below : AllByRecursion (λ object. object.copy ≤ catalogue.last) (objects_of catalogue)
+    pub contents : AreContents (contents_in catalogue)
+
+  -- nothing of it has changed that a caller sees
+  pub record IsAsItWas (old new : Catalogue D) : Type 0 where
+    pub cat : cat_of new ≡ cat_of old
+    pub spare : spare_of new ≡ spare_of old
+    pub capacity : capacity_of new ≡ capacity_of old
+    pub used : used_of new ≡ used_of old
+    pub contents : contents_in new ≡ contents_in old
 
   -- it agrees with its disk: what a read gives and every image of later eras have the journal of its contents
-  pub record Stands (bytes : D → List ℕ) (image : D → ℕ → List ℕ → Type 0) (last : ℕ) (catalogue : Catalogue D) : Type 0 where
-    pub agrees : SlotsAgree catalogue.slots last (bytes catalogue.cat) (image catalogue.cat)
-    pub now : Journals (area_of catalogue.capacity) (contents_in catalogue) (bytes catalogue.cat)
-    pub later : (f : ℕ) (c : List ℕ) → last < f → image catalogue.cat f c → Journals (area_of catalogue.capacity) (contents_in catalogue) c
+  pub record Stands (cat : Seen) (catalogue : Catalogue D) : Type 0 where
+    pub agrees : SlotsAgree catalogue.slots cat
+    pub now : Journals (area_of catalogue.capacity) (contents_in catalogue) cat.bytes
+    pub later : (f : ℕ) (c : List ℕ) → cat.last < f → cat.images f c → Journals (area_of catalogue.capacity) (contents_in catalogue) c

@@ -1,9 +1,7 @@
-pub mod Contents
-pub mod Live
-pub mod Journal
+pub mod Transactions
 pub mod Views
-pub mod Replays
-pub mod Places
+pub mod Deletions
+pub mod Commits
 pub mod Batches
 pub mod Refusals
 pub mod Formats

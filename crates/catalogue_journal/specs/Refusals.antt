@@ -1,8 +1,9 @@
 -- What refuses a transaction.
 use Rattle.std.specs.Prelude.{◌≡◌, ℕ, ◌+◌, ◌-◌, ◌^◌, ◌<◌, ◌≤◌, min, List, length}
-use Rattle.catalogue_journal.specs.Contents.{Contents, Addition, IsWithin, slots_wanted, live_after}
-use Rattle.catalogue_journal.specs.declared.faults.CatFault.{CatFault}
-use Rattle.catalogue_journal.specs.declared.faults.CatFault.TheVariants.{NotFormatted, BadRecord, CatalogueFull, TooManyObjects, Failed, OutOfMemory}
+use Rattle.catalogue_replay.specs.Contents.{Contents}
+use Rattle.catalogue_journal.specs.Transactions.{Addition, IsWithin, slots_wanted, live_after}
+use Rattle.catalogue_replay.specs.declared.faults.CatFault.{CatFault}
+use Rattle.catalogue_replay.specs.declared.faults.CatFault.TheVariants.{NotFormatted, BadRecord, CatalogueFull, TooManyObjects, Failed, OutOfMemory}
 
 -- so many objects would be live, and this would be the last copy id: more than there may be. Each number stands still at the last one
 -- of its 32 or 64 bits.

@@ -1,5 +1,5 @@
 -- The program's additions as the definitions have them.
-use Rattle.catalogue_journal.specs.Contents.{Addition}
+use Rattle.catalogue_journal.specs.Transactions.{Addition}
 use Rattle.catalogue_journal.specs.declared.entries.NewObject.{NewObject}
 
 abbrev pub addition_of : NewObject → Addition

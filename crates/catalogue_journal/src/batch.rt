@@ -1,9 +1,11 @@
 //! The slots of a transaction, laid out in memory.
-ghost use Rattle.std.specs.Prelude.{◌≡◌, ◌+◌, ◌*◌, ◌^◌, ◌<◌, ◌≤◌, ◌++◌, length, take, IfOk};
+ghost use Rattle.std.specs.Prelude.{◌≡◌, ◌+◌, ◌-◌, ◌*◌, ◌^◌, ◌<◌, ◌≤◌, ◌++◌, min, length, take, sum_by, IfOk};
 ghost use Rattle.std.specs.List.{AllByRecursion, flat_map};
+ghost use Rattle.catalogue_slots.specs.Records.{slots_for as slots_for_runs};
 ghost use Rattle.catalogue_journal.specs.Batches.{HasFewRuns, slots_of_entries, del_bytes, entry_bytes, batch_bytes};
 
-use catalogue_slots::{Entry, SLOT_LEN, slots_for, write_del, write_entry};
+use crate::NewObject;
+use catalogue_slots::{ObjectEntry, SLOT_LEN, slots_for, write_del, write_entry};
 use std::alloc::{AllocError, Global};
 
 fn lay_deletions(batch: &mut [u8], copies: &[u64])
@@ -15,7 +17,7 @@ fn lay_deletions(batch: &mut [u8], copies: &[u64])
     }
 }
 
-fn lay_entries(batch: &mut [u8], first: usize, entries: &[Entry])
+fn lay_entries(batch: &mut [u8], first: usize, entries: &[ObjectEntry])
     requires few { AllByRecursion HasFewRuns entries.now }
     requires place { first + 4096 * slots_of_entries entries.now ≤ length batch.old }
     ensures { take (first + 4096 * slots_of_entries entries.now) batch.new
@@ -32,7 +34,7 @@ fn lay_entries(batch: &mut [u8], first: usize, entries: &[Entry])
 pub(crate) fn batch_of(
     alloc: Global,
     copies: &[u64],
-    entries: &[Entry],
+    entries: &[ObjectEntry],
     slots: usize,
 ) -> Result<Vec<u8>, AllocError>
     requires few { AllByRecursion HasFewRuns entries.now }
@@ -44,4 +46,15 @@ pub(crate) fn batch_of(
     lay_deletions(&mut batch, copies);
     lay_entries(&mut batch, SLOT_LEN * copies.len(), entries);
     Ok(batch)
+}
+
+/// The slots that the objects take, at most 2^64 - 1.
+pub(crate) fn slots_of(objects: &[NewObject]) -> u64
+    ensures { result ≡ min (sum_by (λ object. slots_for_runs (length object.runs.items)) objects.now) (2 ^ 64 - 1) }
+{
+    let mut slots: u64 = 0;
+    for object in objects {
+        slots = slots.saturating_add(slots_for(object.runs.len()) as u64);
+    }
+    slots
 }

@@ -4,12 +4,12 @@ ghost use Rattle.std.specs.List.{AllByRecursion};
 ghost use Rattle.bsa_descriptor.specs.Descriptor.{IsDescriptor};
 ghost use Rattle.catalogue_slots.specs.Views.{object_of};
 ghost use Rattle.catalogue_journal.specs.Batches.{IsEntry};
-ghost use Rattle.catalogue_journal.specs.Contents.{object_with, objects_from};
+ghost use Rattle.catalogue_journal.specs.Transactions.{object_with, objects_from};
 ghost use Rattle.catalogue_journal.specs.Views.{addition_of};
 
 use block_chain::Run;
 use bsa_descriptor::{Descriptor, ObjectStatus};
-use catalogue_slots::Entry;
+use catalogue_slots::ObjectEntry;
 use std::alloc::{AllocError, Global};
 
 /// An object that is added.
@@ -42,7 +42,7 @@ fn has_record(descriptor: &Descriptor)
 }
 
 // The object with its copy id.
-fn new_entry(alloc: Global, object: &NewObject, copy: u64) -> Result<Entry, AllocError>
+fn new_entry(alloc: Global, object: &NewObject, copy: u64) -> Result<ObjectEntry, AllocError>
     ensures object { IfOk result (λ entry. object_of entry ≡ object_with copy (addition_of object.now)) }
     ensures fits { IfOk result IsEntry }
 {
@@ -52,7 +52,7 @@ fn new_entry(alloc: Global, object: &NewObject, copy: u64) -> Result<Entry, Allo
     descriptor.copy = copy;
     descriptor.status = ObjectStatus::Any;
     has_record(&descriptor);
-    Ok(Entry {
+    Ok(ObjectEntry {
         copy,
         volume: object.volume,
         size,
@@ -67,7 +67,7 @@ pub(crate) fn new_entries(
     alloc: Global,
     objects: &[NewObject],
     first: u64,
-) -> Result<Vec<Entry>, AllocError>
+) -> Result<Vec<ObjectEntry>, AllocError>
     requires { first + length objects.now < 2 ^ 64 }
     ensures objects { IfOk result (λ entries. map object_of entries.items ≡ objects_from first (map addition_of objects.now)) }
     ensures fit { IfOk result (λ entries. AllByRecursion IsEntry entries.items) }

@@ -7,20 +7,13 @@
 
 mod batch;
 mod catalogue;
+mod deletions;
 mod ending;
 mod entries;
-mod faults;
 mod formatting;
-mod live;
-mod opening;
-mod replay;
-mod sums;
 
 pub use catalogue::Catalogue;
-pub use catalogue_slots::Entry;
+pub use catalogue_replay::CatFault;
+pub use catalogue_slots::ObjectEntry;
 pub use entries::{NewObject, Staged};
-pub use faults::CatFault;
 pub use site_headers::{SiteHead, SpaceHead};
-
-#[cfg(test)]
-mod tests;

@@ -2,17 +2,17 @@ use Rattle.std.proofs.Common.{◌≡◌, ℕ, ◌+◌, ◌<◌, List, [], ◌∷
 use Rattle.std.proofs.lemmas.List.{map_push, take_more, length-map, length-take-le}
 use Rattle.catalogue_slots.specs.Records.{Object}
 use Rattle.catalogue_slots.specs.Views.{object_of}
-use Rattle.catalogue_slots.specs.declared.entry.Entry.{Entry}
-use Rattle.catalogue_journal.specs.Contents.{Addition, object_with, objects_from}
+use Rattle.catalogue_slots.specs.declared.entry.ObjectEntry.{ObjectEntry}
+use Rattle.catalogue_journal.specs.Transactions.{Addition, object_with, objects_from}
 use Rattle.catalogue_journal.specs.Views.{addition_of}
 use Rattle.catalogue_journal.specs.declared.entries.NewObject.{NewObject}
 use Rattle.catalogue_journal.specs.Batches.{IsEntry}
 use Rattle.catalogue_journal.proofs.EntryLemmas.{each-append}
-use Rattle.catalogue_journal.proofs.ReplayLemmas.{objects_from-push}
+use Rattle.catalogue_journal.proofs.EntryLemmas.{objects_from-push}
 use Rattle.catalogue_journal.proofs.entries.new_entries.Goals as goal
 
 -- one object more
-next_entry : (first i : ℕ) (objects : List NewObject) (object : NewObject) (entries : List Entry) (entry : Entry) → i < length objects
+next_entry : (first i : ℕ) (objects : List NewObject) (object : NewObject) (entries : List ObjectEntry) (entry : ObjectEntry) → i < length objects
     → object ≡ get_or objects i object → map object_of entries ≡ objects_from first (map addition_of (take i objects))
     → object_of entry ≡ object_with (first + i) (addition_of object)
     → map object_of (entries ++ entry ∷ []) ≡ objects_from first (map addition_of (take (i + 1) objects))

@@ -1,11 +1,12 @@
 use Rattle.std.proofs.Common.{◌≡◌, ◌≤◌, ◌∙◌, ℕ, List, length, replicate, Some, refl, sym, subst, arith}
+use Rattle.site_disk.specs.CallsLaws.{both_on_ok}
 use Rattle.site_disk.specs.Bytes.{Torn}
 use Rattle.site_disk.specs.CallsLaws.{on_ok}
 use Rattle.gated_slots.specs.Slots.{Area, used}
 use Rattle.twin_mark.specs.Marks.{Stores, record_at}
-use Rattle.catalogue_journal.specs.Contents.{empty}
-use Rattle.catalogue_journal.specs.Places.{area_of, Journals}
-use Rattle.catalogue_journal.proofs.FormatLemmas.{closed_torn, closed_stored, closed_stops, stands_closed, on_both, empty_journal, names_area, gates_stay}
+use Rattle.catalogue_replay.specs.Contents.{empty}
+use Rattle.catalogue_replay.specs.Places.{area_of, Journals}
+use Rattle.catalogue_journal.proofs.FormatLemmas.{closed_torn, closed_stored, closed_stops, stands_closed, empty_journal, names_area, gates_stay}
 use Rattle.catalogue_journal.proofs.formatting.format_catalogue.Goals as goal
 
 after_store : (capacity : ℕ) (mid new : List ℕ) → used (area_of capacity) mid ≡ 0 → 73728 ≤ length mid → Stores 4096 (replicate {A = ℕ} 255 0) mid new → Journals (area_of capacity) empty new
@@ -37,7 +38,7 @@ returns-clause-closed g c tells =
     let new = g.D.Disk.bytes disk in
     let last = (g.D.Disk.ledger disk).last in
     let long : 73728 ≤ length mid = c.in_ok-close_all.ensures.long tells in
-    on_both c.format.result
+    both_on_ok c.format.result
     (λ stores only. stands_closed last e new (g.D.Disk.image disk)
     (closed_stored c.args.mark.now.base (replicate {A = ℕ} 255 0) mid new (omega (arith, c.requires.mark)) (c.in_ok-close_all.ensures.closed tells) stores)
     only c.format.ensures.ledger.no_later (g.met.D.Disk.now_counts disk))

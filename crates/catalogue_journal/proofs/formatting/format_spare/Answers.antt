@@ -1,13 +1,14 @@
 use Rattle.std.proofs.Common.{◌≡◌, ◌∙◌, arith, ap, subst, ℕ, List, length, drop}
 use Rattle.site_disk.specs.CallsLaws.{on_ok}
+use Rattle.site_disk.specs.Seen.{seen}
 use Rattle.gated_slots.specs.Header.{StandsClosed}
 use Rattle.site_headers.specs.Headers.{spare_tail}
 use Rattle.site_headers.specs.HeaderLaws.{length-spare_tail}
 use Rattle.gated_slots.specs.Slots.{Area, used}
-use Rattle.catalogue_journal.specs.Contents.{empty}
-use Rattle.catalogue_journal.specs.Places.{area_of}
+use Rattle.catalogue_replay.specs.Contents.{empty}
+use Rattle.catalogue_replay.specs.Places.{area_of}
 use Rattle.catalogue_journal.proofs.FormatLemmas.{spare_closing_stops, opening_stops, stands_closed, journal_stays, empty_journal}
-use Rattle.catalogue_journal.proofs.HeadLemmas.{opened_header}
+use Rattle.catalogue_journal.proofs.FormatLemmas.{opened_header}
 use Rattle.catalogue_journal.proofs.formatting.format_spare.Goals as goal
 
 pub returns-clause-header : goal.returns-clause-header
@@ -27,9 +28,8 @@ returns-clause-crash g c tells =
     let mid = c.close_all.new.disk in
     let only = c.in_ok-close_all.ensures.durable tells in
     let shut = c.in_ok-close_all.ensures.closed tells in
-    let last = (g.D.Disk.ledger mid).last in
-    let stands : StandsClosed last (g.D.Disk.bytes mid) (g.D.Disk.image mid) =
-    stands_closed last e (g.D.Disk.bytes mid) (g.D.Disk.image mid) shut only c.close_all.ensures.ledger.no_later (g.met.D.Disk.now_counts mid) in
+    let stands : StandsClosed (seen g.D.Disk mid) =
+    stands_closed (g.D.Disk.ledger mid).last e (g.D.Disk.bytes mid) (g.D.Disk.image mid) shut only c.close_all.ensures.ledger.no_later (g.met.D.Disk.now_counts mid) in
     opening_stops e (g.D.Disk.image disk) (spare_tail c.args.site) c.write_spare_header.new.page (g.D.Disk.bytes disk) (g.D.Disk.bytes mid)
     (g.D.Disk.image mid) (g.D.Disk.image c.header_open.new.disk) (ap (drop 1) c.write_spare_header.ensures) (c.close_all.ensures.crash tells) only
     (λ f lt. g.met.D.Disk.reads_as disk f tells (omega (arith, lt, c.requires.era.not_past)))

@@ -1,7 +1,0 @@
-use Rattle.std.proofs.Common.{ap, map, ◌∙◌}
-use Rattle.catalogue_slots.specs.Views.{object_of}
-use Rattle.catalogue_journal.proofs.LiveLemmas.{without_all-filter}
-use Rattle.catalogue_journal.proofs.live.take_out_all.Goals as goal
-
-pub returns : goal.returns
-returns c = ap (map object_of) c.leave_out.ensures ∙ without_all-filter 0 c.args.copies.now c.args.objects.now.items c.requires.rising
