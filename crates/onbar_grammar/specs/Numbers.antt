@@ -36,3 +36,7 @@ is_name (first ∷ others) = is_letter first && list_all is_name_character other
 abbrev pub hex_bytes : List ℕ → Option (List ℕ)
 hex_bytes word =
     option_and_then (λ bytes. if (nat_le 1 (length bytes) && nat_le (length bytes) 64) then Some bytes else None) (result_ok (decode_of word))
+
+-- the numbers that a word of 32 bits holds
+abbrev pub within_u32 : Option ℕ → Option ℕ
+within_u32 value = option_and_then (λ n. if (nat_le 0 n && nat_le n 4294967295) then Some n else None) value

@@ -2,7 +2,7 @@
 use Rattle.std.specs.Prelude.{ℕ, suc, ◌+◌, List, [], ◌∷◌, ◌++◌, length, Bool, true, false, ◌&&◌, ◌==◌, nat_eq, nat_lt, nat_le, if◌then◌else◌, Option, None, Some, Result, Ok, Err, codes}
 use Rattle.std.specs.Option.{ok_or}
 use Rattle.std.specs.Cmp.Lexicographic.{pointwise}
-use Rattle.log_history.specs.History.{Patch, Entry, begin, write, commit, abort}
+use Rattle.log_history.specs.History.{Patch, LogEntry, begin, write, commit, abort}
 use Rattle.onbar_grammar.specs.declared.Why.{Why}
 use Rattle.onbar_grammar.specs.declared.Why.TheVariants.{Words, NoSpace, NoPage, Range, TooLong, ScriptTooLong}
 use Rattle.onbar_grammar.specs.Numbers.{number_within, is_name, hex_bytes}
@@ -55,7 +55,7 @@ pub record Space : Type 0 where
   pub pages : ℕ
 
 -- the record that a line puts into the log
-abbrev pub entry_of_line : ℕ → Line → Entry
+abbrev pub entry_of_line : ℕ → Line → LogEntry
 entry_of_line time (begin_line txn) = begin txn
 entry_of_line time (write_line txn patch) = write txn patch
 entry_of_line time (commit_line txn) = commit txn time

@@ -16,11 +16,11 @@ use Rattle.site_headers.specs.Heads.{IsSpace, IsFresh, AreDistinct}
 use Rattle.site_headers.specs.declared.heads.SpaceHead.{SpaceHead}
 use Rattle.site_headers.proofs.SpaceLemmas.{AreDistinct-push}
 use Rattle.onbar_words.specs.Order.{form_in, command_in, FitsASite}
-use Rattle.onbar_words.specs.SpaceHead.{spaces_of}
+use Rattle.site_headers.specs.Views.{spaces_of}
 use Rattle.onbar_words.specs.declared.words.Form.{Form}
 use Rattle.onbar_words.specs.declared.words.Form.TheVariants.{Init, Transactions, Show}
 use Rattle.onbar_words.specs.declared.words.Order.{Order}
-use Rattle.onbar_words.proofs.FitLemmas.{number_within-Some}
+use Rattle.onbar_grammar.proofs.DigitLemmas.{number_within-Some}
 
 same_Ok : {A : Type 0} (x y : A) → ◌≡◌ {A = Result A ℕ} (Ok x) (Ok y) → x ≡ y
 same_Ok x y is = cc

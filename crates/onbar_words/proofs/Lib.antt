@@ -1,8 +1,1 @@
-pub mod CuttingLemmas
-pub mod ScriptLemmas
-pub mod NextLemmas
-pub mod TokenLemmas
-pub mod LineLemmas
-pub mod FitLemmas
-pub mod NumberLemmas
 pub mod InitLemmas

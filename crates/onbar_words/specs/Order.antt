@@ -2,7 +2,7 @@
 use Rattle.std.specs.Prelude.{◌≡◌, ℕ, ◌-◌, ◌<◌, ◌^◌, List, slice_get, codes, Some, Err}
 use Rattle.onbar_grammar.specs.Words.{CommandForm, Command, init_form, transactions_form, show_form, command_of, form_at}
 use Rattle.site_headers.specs.Heads.{IsHead}
-use Rattle.onbar_words.specs.SpaceHead.{spaces_of}
+use Rattle.site_headers.specs.Views.{spaces_of}
 use Rattle.onbar_words.specs.declared.words.Form.{Form}
 use Rattle.onbar_words.specs.declared.words.Form.TheVariants.{Init, Transactions, Show}
 use Rattle.onbar_words.specs.declared.words.Order.{Order}

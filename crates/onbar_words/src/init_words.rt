@@ -1,16 +1,14 @@
 //! The words of `-init`. A reader is told the place of its first word.
-ghost use Rattle.std.specs.Prelude.{◌≡◌, ◌+◌, ◌<◌, ◌≤◌, ◌^◌, [], length, map, string_bytes, None, Some, Ok, IfOk, IfErr, MatchOption};
+ghost use Rattle.std.specs.Prelude.{◌≡◌, ◌+◌, ◌<◌, ◌≤◌, ◌^◌, [], length, map, string_bytes, Ok, IfOk, IfErr};
 ghost use Rattle.std.specs.Option.{option_map};
-ghost use Rattle.onbar_grammar.specs.Words.{init_of_words, init_behind_k, spaces_of_words, space_of_word, space_of_parts, parted_at, has_space};
-ghost use Rattle.site_headers.specs.Views.{space_of};
+ghost use Rattle.onbar_grammar.specs.Words.{init_of_words, init_behind_k, spaces_of_words, space_of_word, space_of_parts, has_space};
+ghost use Rattle.site_headers.specs.Views.{space_of, spaces_of};
 ghost use Rattle.onbar_words.specs.Order.{form_in};
 ghost use Rattle.onbar_words.specs.Readers.{Names, next_of};
-ghost use Rattle.onbar_words.specs.SpaceHead.{spaces_of};
 
-use crate::SpaceHead;
-use crate::tokens::{name_in, number_within};
 use crate::words::{Form, WordFault};
-use memchr::memchr;
+use onbar_grammar::{name_in, number_within, parts_at};
+use site_headers::SpaceHead;
 use std::alloc::Global;
 
 const MAX_SPACES: usize = 16;
@@ -91,7 +89,7 @@ fn has_name(name: &[u8], spaces: &[SpaceHead]) -> bool
 fn space_in(word: &[u8]) -> Option<SpaceHead>
     ensures { option_map space_of result ≡ space_of_word word.now }
 {
-    let (name, pages) = split_colon(word)?;
+    let (name, pages) = parts_at(b':', word)?;
     space_from(name, pages)
 }
 
@@ -101,12 +99,4 @@ fn space_from(name: &[u8], pages: &[u8]) -> Option<SpaceHead>
     let name = name_in(name)?;
     let pages = number_within(1, MAX_PAGES, pages)?;
     Some(SpaceHead { name, pages })
-}
-
-/// The parts before and behind the first colon.
-fn split_colon(word: &[u8]) -> Option<(&[u8], &[u8])>
-    ensures { MatchOption result (parted_at 58 word.now ≡ None) (λ parts. parted_at 58 word.now ≡ Some (parts.0.now, parts.1.now)) }
-{
-    let at = memchr(b':', word)?;
-    Some((&word[..at], &word[at + 1..]))
 }

@@ -6,9 +6,9 @@ ghost use Rattle.onbar_grammar.specs.Words.{no_more, show_of_space, show_of_word
 ghost use Rattle.onbar_words.specs.Order.{form_in};
 ghost use Rattle.onbar_words.specs.Readers.{form_read};
 
-use crate::tokens::{name_in, number_in};
 use crate::words::Form;
 use bsa_descriptor::Text;
+use onbar_grammar::{name_in, number_in};
 
 /// The form, where no word follows it.
 pub(crate) fn read_end(form: Form, at: u32, words: &[String]) -> Result<Form, u32>

@@ -5,11 +5,11 @@ ghost use Rattle.onbar_words.specs.Order.{command_in, form_in, Refuses, FitsASit
 ghost use Rattle.onbar_words.specs.Readers.{Names};
 ghost use Rattle.onbar_words.specs.declared.words.WordFault.TheVariants.{OutOfMemory};
 
-use crate::SpaceHead;
 use crate::init_words::read_init;
 use crate::show_words::{read_end, read_show};
-use crate::tokens::number_within;
 use bsa_descriptor::Text;
+use onbar_grammar::number_within;
+use site_headers::SpaceHead;
 use std::alloc::{AllocError, AllocFailed, Global};
 use thiserror::Error;
 

@@ -1,0 +1,3 @@
+pub mod NumberLemmas
+pub mod DigitLemmas
+pub mod PartLemmas

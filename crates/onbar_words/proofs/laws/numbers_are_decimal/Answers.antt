@@ -1,5 +1,0 @@
-use Rattle.onbar_words.proofs.NumberLemmas.{number_iff_decimal}
-use Rattle.onbar_words.proofs.laws.numbers_are_decimal.Goals as goal
-
-pub returns : goal.returns
-returns c = number_iff_decimal

@@ -1,6 +1,0 @@
-use Rattle.std.proofs.Common.{sym}
-use Rattle.onbar_words.proofs.TokenLemmas.{hex_bytes-long}
-use Rattle.onbar_words.proofs.tokens.bytes_in.Goals as goal
-
-pub returns-then-len-gt64 : goal.returns-then-len-gt64
-returns-then-len-gt64 c = sym (hex_bytes-long c.args.word.now c.if-len-gt64.true)

@@ -1,0 +1,4 @@
+pub mod Cutting
+pub mod Fault
+pub mod Tokens
+pub mod TxnLine
