@@ -3,9 +3,9 @@
 //! A Reset goes back to its target: from it on all is live, and before it what is live at the target.
 #![tactic(auto)]
 
-mod turns;
+mod reset_points;
 
-pub use turns::{Turn, Turns};
+pub use reset_points::{ResetPoint, ResetPoints};
 
 #[cfg(test)]
 mod tests;

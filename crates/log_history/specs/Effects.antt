@@ -1,11 +1,11 @@
 -- What the transactions in effect at a position make of the pages.
 use Rattle.std.specs.Prelude.{◌≡◌, ℕ, ◌+◌, ◌-◌, List, [], ◌∷◌, ◌++◌, length, reverse, take, drop, map, filter, fold, replicate, Bool, true, false, ◌&&◌, ◌==◌, if◌then◌else◌, Option, Some, refl}
 use Rattle.std.specs.List.{flat_map}
-use Rattle.log_history.specs.History.{Patch, Entry, History, begin, write, commit, entry_at, positions}
+use Rattle.log_history.specs.History.{Patch, LogEntry, History, begin, write, commit, entry_at, positions}
 use Rattle.log_history.specs.Live.{live}
 use Rattle.log_history.specs.Transactions.{open_back}
 
-abbrev pub is_commit : Option Entry → Bool
+abbrev pub is_commit : Option LogEntry → Bool
 is_commit (Some (commit txn time)) = true
 is_commit entry = false
 
@@ -14,14 +14,14 @@ abbrev pub effective : History → ℕ → List ℕ
 effective history n = filter (λ x. is_commit (entry_at history x) && live history n x) (positions (length history))
 
 -- the Writes of a transaction since its last Begin, in order, in records given newest first
-abbrev pub writes_back : ℕ → List Entry → List Patch
+abbrev pub writes_back : ℕ → List LogEntry → List Patch
 writes_back txn [] = []
 writes_back txn (begin other ∷ past) = if other == txn then [] else writes_back txn past
 writes_back txn (write other patch ∷ past) = writes_back txn past ++ (if other == txn then patch ∷ [] else [])
 writes_back txn (entry ∷ past) = writes_back txn past
 
 -- the Writes that a Commit brings into effect: those of its transaction since its Begin, none where it isn't open
-abbrev pub writes_of : Option Entry → List Entry → List Patch
+abbrev pub writes_of : Option LogEntry → List LogEntry → List Patch
 writes_of (Some (commit txn time)) past = if open_back txn past then writes_back txn past else []
 writes_of entry past = []
 

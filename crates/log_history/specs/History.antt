@@ -9,19 +9,19 @@ pub record Patch : Type 0 where
   pub bytes : List ℕ
 
 -- a record of the logical log
-pub data Entry : Type 0 where
-  begin : (txn : ℕ) → Entry
-  write : (txn : ℕ) (patch : Patch) → Entry
-  commit : (txn time : ℕ) → Entry
-  abort : (txn : ℕ) → Entry
-  reset : (restore target time : ℕ) → Entry
+pub data LogEntry : Type 0 where
+  begin : (txn : ℕ) → LogEntry
+  write : (txn : ℕ) (patch : Patch) → LogEntry
+  commit : (txn time : ℕ) → LogEntry
+  abort : (txn : ℕ) → LogEntry
+  reset : (restore target time : ℕ) → LogEntry
 
 -- oldest first; the x-th, counted from 1, has position x
 abbrev pub History : Type 0
-History = List Entry
+History = List LogEntry
 
 -- the record at a position; none stands at 0
-abbrev pub entry_at : History → ℕ → Option Entry
+abbrev pub entry_at : History → ℕ → Option LogEntry
 entry_at history zero = None
 entry_at history (suc x) = slice_get history x
 

@@ -2,7 +2,7 @@
 use Rattle.std.proofs.Common.{◌≡◌, ℕ, zero, suc, ◌+◌, ◌-◌, ◌<◌, Bool, true, false, cond, ◌&&◌, List, [], ◌∷◌, ◌++◌, length, take, map, reverse, get_or, Option, Some, refl, sym, ap, ◌∙◌, arith, slice_get}
 use Rattle.std.specs.List.{filter, flat_map}
 use Rattle.std.proofs.lemmas.List.{take-map, length-map}
-use Rattle.log_history.specs.History.{Entry, History, commit, entry_at, positions}
+use Rattle.log_history.specs.History.{LogEntry, History, commit, entry_at, positions}
 use Rattle.log_history.specs.Live.{live}
 use Rattle.log_history.specs.Effects.{Change, change_by, changes, is_commit, writes, writes_of, writes_back}
 use Rattle.log_history.specs.Transactions.{open_back}
@@ -22,7 +22,7 @@ entry_here records i r below read =
     ap (entry_at (history_of records)) next ∙ slice_get-history_of records i r below ∙ ap (λ (x : Record). Some (entry_of x)) (sym read)
 
 -- what a record brings into effect, by the record
-abbrev brought : History → ℕ → ℕ → Option Entry → List Change
+abbrev brought : History → ℕ → ℕ → Option LogEntry → List Change
 brought history n x entry =
     cond (is_commit entry && live history n x) (map (change_by x) (writes_of entry (reverse (take (x - 1) history)))) []
 

@@ -3,18 +3,18 @@ use Rattle.std.specs.Prelude.{◌≡◌, ℕ, suc, ◌≤◌, Bool, true, false,
 use Rattle.std.specs.List.{AllByRecursion}
 use Rattle.std.proofs.Common.{refl, sym, ap, ◌∙◌, subst, cond, arith}
 use Rattle.std.proofs.lemmas.Bool.Decides.{nat_tests}
-use Rattle.log_history.specs.History.{Patch, Entry, History, begin, write, commit, abort, reset}
+use Rattle.log_history.specs.History.{Patch, LogEntry, History, begin, write, commit, abort, reset}
 use Rattle.log_history.specs.Effects.{writes_back}
 use Rattle.log_history.specs.Transactions.{OpenTxn, Table, lookup, without, with_write, table_back, table_of, open_back}
 use Rattle.txn_table.specs.Table.{oldest}
 use Rattle.txn_table.specs.OrderLaws.{begin_back, with_patch, lookup-table_back}
 
 -- no transaction is open in records given newest first
-abbrev pub NoneOpen : List Entry → Type 0
+abbrev pub NoneOpen : List LogEntry → Type 0
 NoneOpen past = (txn : ℕ) → open_back txn past ≡ false
 
 -- a position and a transaction: it is open, its last Begin is there, and no other open one's is older
-pub record IsOldestOpen (past : List Entry) (low : ℕ × ℕ) : Type 0 where
+pub record IsOldestOpen (past : List LogEntry) (low : ℕ × ℕ) : Type 0 where
   pub running : open_back low.1 past ≡ true
   pub begun : low.0 ≡ begin_back low.1 past
   pub none_older : (txn : ℕ) → open_back txn past ≡ true → low.0 ≤ begin_back txn past
@@ -73,7 +73,7 @@ Rises-append end [] o rises last = (omega (arith, last), tt, tt)
 Rises-append end (p ∷ ps) o rises last =
     (omega (arith, rises.0), From-append p.first ps o rises.1 (omega (arith, rises.0, last)), Rises-append end ps o rises.2 last)
 
-table_rises : (past : List Entry) → Rises (length past) (table_back past)
+table_rises : (past : List LogEntry) → Rises (length past) (table_back past)
 table_rises [] = tt
 table_rises (begin other ∷ past) =
     Rises-append (length past) (without other (table_back past)) (record { txn = other; first = suc (length past); patches = [] })
@@ -101,11 +101,11 @@ told_none : (b : Bool) (told : OpenTxn) → None ≡ cond b (Some told) None →
 told_none true told e = absurd cc
 told_none false told e = refl
 
-abbrev told : ℕ → List Entry → OpenTxn
+abbrev told : ℕ → List LogEntry → OpenTxn
 told txn past = record { txn = txn; first = begin_back txn past; patches = writes_back txn past }
 
 -- by a table that the records make
-low_by : (past : List Entry) (table : Table) → table ≡ table_back past → Rises (length past) table → MatchOption (oldest table) (NoneOpen past) (IsOldestOpen past)
+low_by : (past : List LogEntry) (table : Table) → table ≡ table_back past → Rises (length past) table → MatchOption (oldest table) (NoneOpen past) (IsOldestOpen past)
 low_by past [] same rises = λ txn. told_none (open_back txn past) (told txn past) (ap (lookup txn) same ∙ lookup-table_back txn past)
 low_by past (o ∷ others) same rises =
     let test : (o.txn == o.txn) ≡ true = grind (arith, nat_tests) in

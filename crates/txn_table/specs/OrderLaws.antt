@@ -4,19 +4,19 @@ use Rattle.std.specs.Option.{option_or}
 use Rattle.std.proofs.Common.{refl, sym, ap, ◌∙◌, subst, cond, inl, inr, arith}
 use Rattle.std.proofs.lemmas.List.{take_at, append-nil}
 use Rattle.std.proofs.lemmas.Bool.Decides.{eqb_tells, nat_tests}
-use Rattle.log_history.specs.History.{Patch, Entry, History, begin, write, commit, abort, reset}
+use Rattle.log_history.specs.History.{Patch, LogEntry, History, begin, write, commit, abort, reset}
 use Rattle.log_history.specs.Effects.{writes, writes_of, writes_back}
 use Rattle.log_history.specs.Transactions.{OpenTxn, Table, lookup, without, with_write, table_back, table_of, open_back, given, patches_of, refusal, unless_open, unless_new, MayFollow, InOrder, InOrderBack}
 use Rattle.txn_table.specs.Table.{first_refusal, first_refusal_back}
 
 -- the position of a transaction's last Begin, in records given newest first
-abbrev pub begin_back : ℕ → List Entry → ℕ
+abbrev pub begin_back : ℕ → List LogEntry → ℕ
 begin_back txn [] = 0
 begin_back txn (begin other ∷ past) = if other == txn then suc (length past) else begin_back txn past
 begin_back txn (entry ∷ past) = begin_back txn past
 
 -- a transaction as the records tell of it, where it is open
-abbrev pub told_by : ℕ → List Entry → Option OpenTxn
+abbrev pub told_by : ℕ → List LogEntry → Option OpenTxn
 told_by txn past =
     if open_back txn past then Some (record { txn = txn; first = begin_back txn past; patches = writes_back txn past }) else None
 
@@ -112,7 +112,7 @@ IsApart-append (p ∷ ps) o apart none =
     let absent : lookup p.txn (ps ++ o ∷ []) ≡ None = lookup-append p.txn ps o ∙ rw (apart.0, test) refl in
     (absent, IsApart-append ps o apart.1 parts.1)
 
-table_apart : (past : List Entry) → IsApart (table_back past)
+table_apart : (past : List LogEntry) → IsApart (table_back past)
 table_apart [] = tt
 table_apart (begin other ∷ past) =
     IsApart-append (without other (table_back past)) (record { txn = other; first = suc (length past); patches = [] })
@@ -137,7 +137,7 @@ push_other txn other first table test =
       last_none (Some o) = refl
 
 -- a Write of the transaction, told
-told-write : (txn : ℕ) (patch : Patch) (past : List Entry) → (txn == txn) ≡ true → option_map (with_patch patch) (told_by txn past) ≡ told_by txn (write txn patch ∷ past)
+told-write : (txn : ℕ) (patch : Patch) (past : List LogEntry) → (txn == txn) ≡ true → option_map (with_patch patch) (told_by txn past) ≡ told_by txn (write txn patch ∷ past)
 told-write txn patch past test =
     let both : writes_back txn past ++ (if txn == txn then patch ∷ [] else []) ≡ writes_back txn past ++ patch ∷ [] = rw test refl in
     by (open_back txn past) ∙ ap (λ (ps : List Patch). cond (open_back txn past) (Some (record { txn = txn; first = begin_back txn past; patches = ps })) None) (sym both) where
@@ -146,7 +146,7 @@ told-write txn patch past test =
       by true = refl
       by false = refl
 
-pub lookup-table_back : (txn : ℕ) (past : List Entry) → lookup txn (table_back past) ≡ told_by txn past
+pub lookup-table_back : (txn : ℕ) (past : List LogEntry) → lookup txn (table_back past) ≡ told_by txn past
 lookup-table_back txn [] = refl
 lookup-table_back txn (begin other ∷ past) =
     let ih : lookup txn (table_back past) ≡ told_by txn past = lookup-table_back txn past in
@@ -201,11 +201,11 @@ lookup-table_back txn (abort other ∷ past) =
     ]
 lookup-table_back txn (reset restore target time ∷ past) = refl
 
-goes_on : (txn : ℕ) (past : List Entry) → open_back txn past ≡ true → unless_open (lookup txn (table_back past)) ≡ None
+goes_on : (txn : ℕ) (past : List LogEntry) → open_back txn past ≡ true → unless_open (lookup txn (table_back past)) ≡ None
 goes_on txn past running = ap unless_open (lookup-table_back txn past) ∙ rw running refl
 
 -- what may follow isn't refused
-pub may_follow_not_refused : (past : List Entry) (entry : Entry) → MayFollow past entry → refusal entry (table_back past) ≡ None
+pub may_follow_not_refused : (past : List LogEntry) (entry : LogEntry) → MayFollow past entry → refusal entry (table_back past) ≡ None
 may_follow_not_refused past (begin txn) may =
     let none : lookup txn (table_back past) ≡ None = lookup-table_back txn past ∙ rw may.0 refl in
     let test : nat_lt (length (table_back past)) 64 ≡ true = grind (arith, nat_tests, may.1) in
@@ -215,7 +215,7 @@ may_follow_not_refused past (commit txn time) may = goes_on txn past may.0
 may_follow_not_refused past (abort txn) may = goes_on txn past may
 may_follow_not_refused past (reset restore target time) may = refl
 
-order_not_refused : (past : List Entry) → InOrderBack past → first_refusal_back past ≡ None
+order_not_refused : (past : List LogEntry) → InOrderBack past → first_refusal_back past ≡ None
 order_not_refused [] order = refl
 order_not_refused (entry ∷ past) order = rw (order_not_refused past order.1) (may_follow_not_refused past entry order.0)
 
@@ -223,14 +223,14 @@ pub in_order_not_refused : (history : History) → InOrder history → first_ref
 in_order_not_refused history order = order_not_refused (reverse history) order
 
 -- the table has the Writes of a Commit, none where its transaction isn't open
-pub given_back : (txn time : ℕ) (past : List Entry) → given (commit txn time) (table_back past) ≡ writes_of (Some (commit txn time)) past
+pub given_back : (txn time : ℕ) (past : List LogEntry) → given (commit txn time) (table_back past) ≡ writes_of (Some (commit txn time)) past
 given_back txn time past = ap patches_of (lookup-table_back txn past) ∙ by (open_back txn past) where
   by : (b : Bool) → patches_of (cond b (Some (record { txn = txn; first = begin_back txn past; patches = writes_back txn past })) None)
       ≡ cond b (writes_back txn past) []
   by true = refl
   by false = refl
 
-entry_behind : (front rest : History) (entry : Entry) → slice_get (front ++ entry ∷ rest) (length front) ≡ Some entry
+entry_behind : (front rest : History) (entry : LogEntry) → slice_get (front ++ entry ∷ rest) (length front) ≡ Some entry
 entry_behind [] rest entry = refl
 entry_behind (first ∷ front) rest entry = entry_behind front rest entry
 
@@ -240,6 +240,6 @@ given_are_writes front rest txn time =
     let history : History = front ++ commit txn time ∷ rest in
     let before : take (suc (length front) - 1) history ≡ front = take_at front (commit txn time ∷ rest) (suc (length front) - 1) (omega arith) in
     let told : writes history (suc (length front)) ≡ writes_of (Some (commit txn time)) (reverse front) =
-    ap (λ (o : Option Entry). writes_of o (reverse (take (suc (length front) - 1) history))) (entry_behind front rest (commit txn time))
+    ap (λ (o : Option LogEntry). writes_of o (reverse (take (suc (length front) - 1) history))) (entry_behind front rest (commit txn time))
     ∙ ap (λ (h : History). writes_of (Some (commit txn time)) (reverse h)) before in
     given_back txn time (reverse front) ∙ sym told

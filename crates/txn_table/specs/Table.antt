@@ -1,7 +1,7 @@
 -- The program's table of running transactions as the history has it, and its answers.
 use Rattle.std.specs.Prelude.{◌≡◌, ◌≢◌, ◌<◌, ℕ, List, slice_index_or, [], ◌∷◌, map, length, reverse, Option, Some, None}
 use Rattle.std.specs.Option.{option_or}
-use Rattle.log_history.specs.History.{Patch, Entry, History, begin, write}
+use Rattle.log_history.specs.History.{Patch, LogEntry, History, begin, write}
 use Rattle.log_history.specs.Effects.{Change}
 use Rattle.log_history.specs.Transactions.{OpenTxn, Table, table_back, refusal, Refusal, already_open, not_open, too_many_open}
 use Rattle.txn_table.specs.declared.changes.Change.{Change as Brought}
@@ -40,7 +40,7 @@ fault_of not_open = NotOpen
 fault_of too_many_open = TooManyOpen
 
 -- a Begin and a Write make the table grow
-abbrev pub Grows : Entry → Type 0
+abbrev pub Grows : LogEntry → Type 0
 Grows (begin txn) = Unit {0}
 Grows (write txn patch) = Unit {0}
 Grows entry = ⊥
@@ -51,7 +51,7 @@ oldest [] = None
 oldest (o ∷ others) = Some (o.first, o.txn)
 
 -- why the first record that may not follow those before it may not; newest first
-abbrev pub first_refusal_back : List Entry → Option Refusal
+abbrev pub first_refusal_back : List LogEntry → Option Refusal
 first_refusal_back [] = None
 first_refusal_back (entry ∷ past) = option_or (first_refusal_back past) (refusal entry (table_back past))
 

@@ -3,24 +3,24 @@ use Rattle.std.specs.Prelude.{◌≡◌, ℕ, suc, ◌+◌, List, [], ◌∷◌,
 use Rattle.std.specs.Option.{option_or}
 use Rattle.std.proofs.Common.{refl, ap, ◌∙◌, ◌<◌}
 use Rattle.std.proofs.lemmas.List.{reverse-append, length-reverse, map_more}
-use Rattle.log_history.specs.History.{Entry, History}
+use Rattle.log_history.specs.History.{LogEntry, History}
 use Rattle.log_history.specs.Transactions.{after, table_back, table_of, refusal, Refusal}
 use Rattle.log_record.specs.declared.records.Record.{Record}
 use Rattle.log_record.specs.Entry.{entry_of, history_of}
 use Rattle.txn_table.specs.Table.{first_refusal, first_refusal_back}
 
-pub reverse_push : (history : History) (entry : Entry) → reverse (history ++ entry ∷ []) ≡ entry ∷ reverse history
+pub reverse_push : (history : History) (entry : LogEntry) → reverse (history ++ entry ∷ []) ≡ entry ∷ reverse history
 reverse_push history entry = reverse-append history (entry ∷ [])
 
-pub table_of-push : (history : History) (entry : Entry) → table_of (history ++ entry ∷ []) ≡ after (suc (length history)) entry (table_of history)
+pub table_of-push : (history : History) (entry : LogEntry) → table_of (history ++ entry ∷ []) ≡ after (suc (length history)) entry (table_of history)
 table_of-push history entry =
     ap table_back (reverse_push history entry) ∙ ap (λ (n : ℕ). after (suc n) entry (table_of history)) (length-reverse history)
 
-pub first_refusal-push : (history : History) (entry : Entry)
+pub first_refusal-push : (history : History) (entry : LogEntry)
     → first_refusal (history ++ entry ∷ []) ≡ option_or (first_refusal history) (refusal entry (table_of history))
 first_refusal-push history entry = ap first_refusal_back (reverse_push history entry)
 
-refused_before : (newer past : List Entry) (r : Refusal) → first_refusal_back past ≡ Some r → first_refusal_back (newer ++ past) ≡ Some r
+refused_before : (newer past : List LogEntry) (r : Refusal) → first_refusal_back past ≡ Some r → first_refusal_back (newer ++ past) ≡ Some r
 refused_before [] past r e = e
 refused_before (entry ∷ newer) past r e = rw (refused_before newer past r e) refl
 

@@ -1,56 +1,56 @@
 //! The Resets of a log, in the order in which they come.
 ghost use Rattle.std.specs.Prelude.{◌≡◌, ◌∷◌, ◌↔◌, [], map, reverse, IsTrue, OnOk, OnErr};
 ghost use Rattle.log_history.specs.Live.{live_by};
-ghost use Rattle.live_positions.specs.Turns.{turn_of, turns_in};
+ghost use Rattle.live_positions.specs.ResetPoints.{reset_point_of, reset_points_in};
 
 use std::alloc::{AllocError, Global};
 use std::marker::Model;
 
 /// Where a Reset stands, and the position that it goes back to.
 #[derive(Clone, Copy, Debug, PartialEq, Eq)]
-pub struct Turn {
+pub struct ResetPoint {
     pub at: u64,
     pub target: u64,
 }
 
 /// The Resets of a log.
 #[derive(Debug, Drop)]
-pub struct Turns {
-    turns: Vec<Turn>,
+pub struct ResetPoints {
+    points: Vec<ResetPoint>,
 }
 
-impl Model for Turns {
+impl Model for ResetPoints {
     ghost use Rattle.std.specs.Prelude.{List};
-    ghost use Rattle.log_history.specs.Live.{Turn as Reset};
-    ghost use Rattle.live_positions.specs.Turns.{turns_in};
+    ghost use Rattle.log_history.specs.Live.{ResetPoint as Reset};
+    ghost use Rattle.live_positions.specs.ResetPoints.{reset_points_in};
 
     ghost Value = { List Reset };
 
-    ghost view = { λ t. turns_in t.turns.items };
+    ghost view = { λ t. reset_points_in t.points.items };
 }
 
-impl Turns {
+impl ResetPoints {
     /// No Reset.
-    pub fn new(alloc: Global) -> Turns
+    pub fn new(alloc: Global) -> ResetPoints
         ensures { result ≡ [] }
     {
-        Turns {
-            turns: Vec::new(alloc),
+        ResetPoints {
+            points: Vec::new(alloc),
         }
     }
 
     pub fn is_empty(&self) -> bool
         ensures { IsTrue result ↔ (self.now ≡ []) }
     {
-        self.turns.is_empty()
+        self.points.is_empty()
     }
 
     /// Adds the next Reset.
-    pub fn push(&mut self, turn: Turn) -> Result<(), AllocError>
-        ensures added { OnOk result (self.new ≡ turn_of turn ∷ self.old) }
+    pub fn push(&mut self, point: ResetPoint) -> Result<(), AllocError>
+        ensures added { OnOk result (self.new ≡ reset_point_of point ∷ self.old) }
         ensures unchanged { OnErr result (self.new ≡ self.old) }
     {
-        self.turns.push(turn)?;
+        self.points.push(point)?;
         Ok(())
     }
 
@@ -58,25 +58,25 @@ impl Turns {
     pub fn is_live(&self, n: u64, x: u64) -> bool
         ensures { result ≡ live_by self.now n x }
     {
-        is_live(&self.turns, n, x)
+        is_live(&self.points, n, x)
     }
 }
 
 /// Whether position `x` is live at position `n`, by these Resets.
-fn is_live(turns: &[Turn], n: u64, x: u64) -> bool
-    ensures { result ≡ live_by (turns_in turns.now) n x }
+fn is_live(points: &[ResetPoint], n: u64, x: u64) -> bool
+    ensures { result ≡ live_by (reset_points_in points.now) n x }
 {
     let mut limit = n;
-    for i in (0..turns.len()).rev() {
-        let turn = turns[i];
-        if limit >= turn.at {
-            if turn.at <= x {
+    for i in (0..points.len()).rev() {
+        let point = points[i];
+        if limit >= point.at {
+            if point.at <= x {
                 return x <= limit;
             }
-            if turn.target >= turn.at {
+            if point.target >= point.at {
                 return false;
             }
-            limit = turn.target;
+            limit = point.target;
         }
     }
     x <= limit
