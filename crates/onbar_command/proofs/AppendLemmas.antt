@@ -7,7 +7,7 @@ use Rattle.log_history.specs.History.{History}
 use Rattle.log_record.specs.declared.records.Record.{Record}
 use Rattle.log_record.specs.Entry.{entry_of, history_of}
 use Rattle.log_record.specs.Layout.{IsRecord, spelling}
-use Rattle.gated_slots.specs.Slots.{Area, SlotsView, used, Keeps, Gains, MayGain, Agrees, Reaches}
+use Rattle.gated_slots.specs.Slots.{Area, SlotsView, used, OutsideArea, Keeps, Gains, MayGain, Agrees, Reaches}
 use Rattle.site_model.specs.Worlds.{Site}
 use Rattle.site_model.specs.Layouts.{HoldsLog}
 use Rattle.site_model.specs.LogLaws.{extended, HoldsLog-keeps, HoldsLog-gains, HoldsLog-reaches}
@@ -32,7 +32,7 @@ pub count_is : (len size n : ℕ) → size ≡ 128 → len ≡ 128 * n → len /
 count_is len size n size_is len_is = ap (λ (k : ℕ). len / k) size_is ∙ (let e : len / 128 ≡ n = omega (arith, len_is) in e)
 
 module _ (site : Site) (slots : SlotsView) (last : ℕ) (bytes : List ℕ) (images : ℕ → List ℕ → Type 0) (ready : IsReady site slots last bytes images) where
-  pub agrees : Agrees slots last bytes images
+  pub agrees : Agrees slots (record { last = last; bytes = bytes; images = images })
   agrees = record {
     now = ap (λ (a : Area). used a bytes) ready.area ∙ ready.holds.used ∙ sym ready.used;
     later = λ f c lt image. ap (λ (a : Area). used a c) ready.area ∙ (ready.later f c lt image).used ∙ sym ready.used;
@@ -44,10 +44,13 @@ module _ (site : Site) (slots : SlotsView) (last : ℕ) (bytes : List ℕ) (imag
 
   module _ (batch : History) (all : AllByRecursion IsRecord batch) (n : ℕ) (piece : List ℕ) (n_is : n ≡ length batch) (piece_is : piece ≡ flat_map spelling batch) where
     pub may_hold : (old new : List ℕ) → MayGain slots.area n piece old new → MayHold site batch old new
-    may_hold old new may holds = ⊎_elim
-        (λ keeps. inl (HoldsLog-keeps site old new (subst (λ (a : Area). Keeps a old new) ready.area keeps) holds))
-        (λ gains. inr (HoldsLog-gains site batch n piece old new all n_is piece_is (subst (λ (a : Area). Gains a n piece old new) ready.area gains) holds))
-        may.slots
+    may_hold old new may = record {
+      holds = λ holds. ⊎_elim
+          (λ keeps. inl (HoldsLog-keeps site old new (subst (λ (a : Area). Keeps a old new) ready.area keeps) holds))
+          (λ gains. inr (HoldsLog-gains site batch n piece old new all n_is piece_is (subst (λ (a : Area). Gains a n piece old new) ready.area gains) holds))
+          may.slots;
+      elsewhere = subst (λ (a : Area). OutsideArea a old new) ready.area may.elsewhere;
+    }
 
     pub appended : (new_slots : SlotsView) (new_last : ℕ) (new_bytes : List ℕ) (new_images : ℕ → List ℕ → Type 0) → new_slots ≡ record slots { used = slots.used + length batch }
         → Gains slots.area n piece bytes new_bytes → ((f : ℕ) (c : List ℕ) → new_last < f → new_images f c → c ≡ new_bytes)

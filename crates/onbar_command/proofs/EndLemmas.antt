@@ -13,7 +13,7 @@ use Rattle.onbar_command.specs.declared.transactions.Work.{Work}
 use Rattle.onbar_command.specs.declared.transactions.Stop.{Stop}
 use Rattle.onbar_command.specs.declared.transactions.Stop.TheVariants.{End, Fault, Full, ReadFault, DiskFault, OutOfMemory}
 use Rattle.onbar_command.specs.Ends.{StopsAt, LinesEnd, RunDone, RunEnds, LastDone, LastBreaks, LastEnds}
-use Rattle.onbar_command.specs.Turns.{stands_at}
+use Rattle.onbar_command.specs.ScriptSteps.{stands_at}
 use Rattle.onbar_command.specs.Walks.{LogWalk}
 use Rattle.onbar_command.proofs.LinesLemmas.{walk_further, breaks_off, quiet_holds}
 

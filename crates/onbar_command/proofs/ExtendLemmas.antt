@@ -12,7 +12,7 @@ use Rattle.site_model.specs.declared.status.Status.{Status}
 use Rattle.site_model.specs.declared.status.Status.TheVariants.{Ok as Done}
 use Rattle.site_model.specs.Commands.{CutsShort}
 use Rattle.site_model.specs.Layouts.{HoldsLog}
-use Rattle.site_model.specs.Runs.{Ending, first_place}
+use Rattle.site_model.specs.Runs.{Ending, first_state}
 use Rattle.site_model.specs.Worlds.{Site}
 use Rattle.onbar_command.specs.declared.opening.OpenFault.{OpenFault}
 use Rattle.onbar_command.specs.declared.opening.OpenFault.TheVariants.{LogLost, BadRecord, Failed, OutOfMemory as LogMemory}
@@ -26,8 +26,8 @@ use Rattle.onbar_command.specs.Extending.{IsExtended, ExtendsTo, log_status, rep
 use Rattle.onbar_command.specs.declared.opening.OpenLog.{OpenLog}
 use Rattle.onbar_command.specs.Logs.{IsReady}
 use Rattle.onbar_command.specs.Openings.{IsDeviceOrMemory, IsOpened}
-use Rattle.site_model.specs.Openings.{CanOpen, LogRefuses, first_stray}
-use Rattle.site_model.specs.OpeningLaws.{none_bad_place, one_reading, holds_reads}
+use Rattle.site_model.specs.Openings.{CanOpen, LogRefuses, first_out_of_order}
+use Rattle.site_model.specs.OpeningLaws.{log_unrefused, one_reading, holds_reads}
 use Rattle.onbar_command.specs.Replays.{IsStateOf}
 use Rattle.onbar_command.specs.Scripts.{place_at}
 use Rattle.onbar_command.specs.Walks.{LogWalk}
@@ -45,10 +45,7 @@ nothing_new e old new leaves counts f c image = elim (cases_order f e) [
 -- a log that holds the records of a site and can be opened isn't refused
 pub not_refused : (site : Site) (file : List ℕ) (fault : OpenFault) → HoldsLog site file → CanOpen site.history
     → IsDeviceOrMemory fault ⊎ LogRefuses site.head.site file (log_status fault) → IsDeviceOrMemory fault
-not_refused site file fault holds opens came = ⊎_elim (λ is. is) (λ refuses. absurd (⊎_elim
-    (λ lost. lost.0 holds.header)
-    (λ bad. none_bad_place site file holds opens bad.1.0 bad.1.1)
-    refuses)) came
+not_refused site file fault holds opens came = ⊎_elim (λ is. is) (λ refuses. absurd (log_unrefused site file holds opens (log_status fault) refuses)) came
 
 -- what was opened is the site's log
 module _ (site : Site) (log : OpenLog) (last : ℕ) (file bytes : List ℕ) (images : ℕ → List ℕ → Type 0) (holds : HoldsLog site file)
@@ -78,6 +75,7 @@ pub rests_walk : (site : Site) (passed : List History) (start : ℕ) (old new : 
 rests_walk site passed start old new holds none = record {
   earlier = λ f c early image. none f c image;
   later = λ f c lt image. (site.history, inl refl, holds f c lt (none f c image));
+  elsewhere = λ f c lt image. record { era = f; behind = lt; image = c; was = none f c image; elsewhere = λ place len gates slots. refl };
 }
 
 walk_from : (site : Site) (passed : List History) (start : ℕ) (old mid new : ℕ → List ℕ → Type 0)
@@ -85,6 +83,9 @@ walk_from : (site : Site) (passed : List History) (start : ℕ) (old mid new : �
 walk_from site passed start old mid new none walk = record {
   earlier = λ f c early image. none f c (walk.earlier f c early image);
   later = walk.later;
+  elsewhere = λ f c lt image.
+      let from = walk.elsewhere f c lt image in
+      record { era = from.era; behind = from.behind; image = from.image; was = none from.era from.image from.was; elsewhere = from.elsewhere };
 }
 
 pub right_none : (xs ys : List ℕ) → xs ++ ys ≡ [] → ys ≡ []
@@ -92,11 +93,11 @@ right_none [] ys is = is
 right_none (x ∷ xs) ys is = absurd (cc)
 
 -- where a run begins
-pub begins_at : (progress : Progress) (history : History) (state : LogState) → first_stray history ≡ None → progress.lines ≡ record { begun = 0; line = []; held = [] } → progress.line ≡ 0
+pub begins_at : (progress : Progress) (history : History) (state : LogState) → first_out_of_order history ≡ None → progress.lines ≡ record { begun = 0; line = []; held = [] } → progress.line ≡ 0
     → progress.collected.batch.items ≡ [] → progress.collected.open ≡ state.open → progress.collected.time ≡ state.time → IsStateOf history state
-    → place_at progress (history ++ []) [] ≡ first_place history
-begins_at progress history state no_stray lines line batch table time is =
-    let table_is : progress.collected.open ≡ table_of history = table ∙ is.table no_stray in
+    → place_at progress (history ++ []) [] ≡ first_state history
+begins_at progress history state in_order lines line batch table time is =
+    let table_is : progress.collected.open ≡ table_of history = table ∙ is.table in_order in
     let time_is : progress.collected.time ≡ last_time history = time ∙ is.time in
     λ i. record {
       begun = (lines i).begun;

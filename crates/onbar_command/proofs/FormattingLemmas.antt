@@ -76,7 +76,7 @@ pub closed_by_writing : (old new : List ℕ) → new ≡ written 0 (0 ∷ []) ol
 closed_by_writing old new is = subst IsClosed (sym is) (record { some = omega (arith, length-written 0 (0 ∷ []) old (omega arith)); gate = refl })
 
 -- later images are closed where they are what a read gives
-pub stands_closed : (last : ℕ) (bytes : List ℕ) (images : ℕ → List ℕ → Type 0) → IsClosed bytes → ((f : ℕ) (c : List ℕ) → last < f → images f c → c ≡ bytes) → StandsClosed last bytes images
+pub stands_closed : (last : ℕ) (bytes : List ℕ) (images : ℕ → List ℕ → Type 0) → IsClosed bytes → ((f : ℕ) (c : List ℕ) → last < f → images f c → c ≡ bytes) → StandsClosed (record { last = last; bytes = bytes; images = images })
 stands_closed last bytes images closed only = record { now = closed; later = λ f c lt image. subst IsClosed (sym (only f c lt image)) closed }
 
 -- a log's zero bytes leave its header closed

@@ -3,6 +3,7 @@ mod CommandLemmas
 mod EndLemmas
 mod ExtendLemmas
 mod FormattingLemmas
+mod FrameLemmas
 mod HeaderLemmas
 mod InitLemmas
 mod LinesLemmas
@@ -12,6 +13,6 @@ mod ReadingLemmas
 mod ReplayLemmas
 mod ShowingLemmas
 mod SiteLemmas
-mod TurnLemmas
+mod StepLemmas
 mod ViewLemmas
 mod WordsLemmas

@@ -1,15 +1,15 @@
--- The lines of a script are taken turn by turn.
-use Rattle.std.proofs.Common.{◌≡◌, ◌⊎◌, inl, inr, ⊎_elim, ℕ, ◌+◌, ◌≤◌, List, [], ◌∷◌, ◌++◌, Bool, IsTrue, Some, refl, sym, ◌∙◌, ap, subst, arith, append_assoc}
+-- The lines of a script are taken step by step.
+use Rattle.std.proofs.Common.{◌≡◌, ◌⊎◌, inl, inr, ⊎_elim, ℕ, ◌+◌, ◌<◌, ◌≤◌, List, [], ◌∷◌, ◌++◌, Bool, IsTrue, Some, refl, sym, ◌∙◌, ap, subst, arith, append_assoc}
 use Rattle.std.proofs.lemmas.List.{append-nil}
 use Rattle.log_history.specs.History.{History}
 use Rattle.gated_slots.specs.Slots.{SlotsView}
 use Rattle.onbar_grammar.specs.Script.{Space, raw_lines}
-use Rattle.onbar_words.specs.Cutting.{TakesFront}
+use Rattle.script_lines.specs.Cutting.{TakesFront}
 use Rattle.site_disk.specs.Ledger.{EraView, Ledger, MayUse}
 use Rattle.site_model.specs.Worlds.{Site}
 use Rattle.site_model.specs.Layouts.{HoldsLog}
 use Rattle.site_model.specs.LogLaws.{extended}
-use Rattle.site_model.specs.Runs.{Place, Ending, appended}
+use Rattle.site_model.specs.Runs.{ScriptState, Ending, appended}
 use Rattle.site_model.specs.RunsLaws.{Extends, passed-run_lines}
 use Rattle.onbar_command.specs.declared.transactions.Counts.{Counts}
 use Rattle.onbar_command.specs.declared.transactions.Work.{Work}
@@ -18,11 +18,11 @@ use Rattle.onbar_command.specs.declared.transactions.Stop.TheVariants.{End, Faul
 use Rattle.onbar_command.specs.Collecting.{IsBounded}
 use Rattle.onbar_command.specs.Ends.{Holds, LinesEnd}
 use Rattle.onbar_command.specs.Scripts.{run_text}
-use Rattle.onbar_command.specs.Turns.{Between, HoldsEither, GoesOn, Turns, IsQuiet, stands_at}
-use Rattle.onbar_command.specs.Walks.{IsOneOf, IsOnTheWay, LogWalk}
+use Rattle.onbar_command.specs.ScriptSteps.{Between, HoldsEither, GoesOn, TakesStep, IsQuiet, stands_at}
+use Rattle.onbar_command.specs.Walks.{ComesFrom, IsOneOf, IsOnTheWay, LogWalk}
 
 -- a run under way: the records added so far, the logs passed, and the run goes on from here
-pub record UnderWay (site : Site) (ending : Ending) (run : Place → Ending) (work : Work) (start last : ℕ) (bytes : List ℕ) (old new : ℕ → List ℕ → Type 0) : Type 0 where
+pub record UnderWay (site : Site) (ending : Ending) (run : ScriptState → Ending) (work : Work) (start last : ℕ) (bytes : List ℕ) (old new : ℕ → List ℕ → Type 0) : Type 0 where
   pub added : History
   pub passed : List History
   pub holds : Holds site added passed work start last bytes old new
@@ -42,10 +42,25 @@ pub wider : (site : Site) (passed more : List History) (start : ℕ) (old new : 
 wider site passed more start old new walk = record {
   earlier = walk.earlier;
   later = λ f c lt image. let from = walk.later f c lt image in (from.0, one_of_more from.0 (site.history ∷ passed) more from.1, from.2);
+  elsewhere = walk.elsewhere;
 }
 
 pub widened : (site : Site) (passed all : List History) (start : ℕ) (old new : ℕ → List ℕ → Type 0) → Extends passed all → LogWalk site passed start old new → LogWalk site all start old new
 widened site passed all start old new extends walk = subst (λ (l : List History). LogWalk site l start old new) (sym extends.is) (wider site passed extends.more start old new walk)
+
+-- what comes from what comes from an image
+comes_further : (start era : ℕ) (old mid : ℕ → List ℕ → Type 0) (c : List ℕ) → start ≤ era
+    → ((f : ℕ) (d : List ℕ) → start < f → mid f d → ComesFrom start old d) → ComesFrom era mid c → ComesFrom start old c
+comes_further start era old mid c le before from =
+    let lt = from.behind in
+    let first = before from.era from.image (omega arith) from.was in
+    record {
+      era = first.era;
+      behind = first.behind;
+      image = first.image;
+      was = first.was;
+      elsewhere = λ place len gates slots. from.elsewhere place len gates slots ∙ first.elsewhere place len gates slots;
+    }
 
 -- a walk goes on over images of two of its logs
 pub walks_on : (site : Site) (added next : History) (passed : List History) (start era : ℕ) (old mid new : ℕ → List ℕ → Type 0) → start ≤ era
@@ -55,6 +70,8 @@ walks_on site added next passed start era old mid new le here there walk either 
   earlier = λ f c early image. ⊎_elim (λ was. walk.earlier f c early was) (λ later. absurd (omega (arith, later.0, early, le))) (either f c image);
   later = λ f c lt image. ⊎_elim (λ was. walk.later f c lt was)
       (λ later. ⊎_elim (λ present. (site.history ++ added, here, present)) (λ follows. (site.history ++ next, there, follows)) later.1) (either f c image);
+  elsewhere = λ f c lt image. ⊎_elim (λ was. walk.elsewhere f c lt was)
+      (λ later. comes_further start era old mid c le walk.elsewhere later.2) (either f c image);
 }
 
 -- fewer images
@@ -63,6 +80,7 @@ pub walk_still : (site : Site) (passed : List History) (start : ℕ) (old mid ne
 walk_still site passed start old mid new walk none = record {
   earlier = λ f c early image. walk.earlier f c early (none f c image);
   later = λ f c lt image. walk.later f c lt (none f c image);
+  elsewhere = λ f c lt image. walk.elsewhere f c lt (none f c image);
 }
 
 pub starts : (site : Site) (work : Work) (start last : ℕ) (bytes : List ℕ) (images : ℕ → List ℕ → Type 0) → last ≤ start → Between site [] work last bytes images
@@ -73,6 +91,7 @@ starts site work start last bytes images le between = record {
   walk = record {
     earlier = λ f c early image. image;
     later = λ f c lt image. (site.history ++ [], inl (append-nil site.history), between.ready.later f c (omega arith) image);
+    elsewhere = λ f c lt image. record { era = f; behind = lt; image = c; was = image; elsewhere = λ place len gates slots. refl };
   };
 }
 
@@ -100,8 +119,8 @@ module _ (site : Site) (added : History) (passed : List History) (start era : �
     pub walk_further : Grows site added passed next next_passed → HoldsEither site added next era mid new → LogWalk site next_passed start old new
     walk_further grows images = walks_on site added next next_passed start era old mid new le (here grows) (next_present grows) (before_walk grows) images
 
-  -- a turn that goes on
-  pub goes_further : (run : Place → Ending) (before : Ending) (work : Work) (last : ℕ) (bytes : List ℕ)
+  -- a step that goes on
+  pub goes_further : (run : ScriptState → Ending) (before : Ending) (work : Work) (last : ℕ) (bytes : List ℕ)
       → GoesOn site added passed run before work last bytes era mid new → UnderWay site before run work start last bytes old new
   goes_further run before work last bytes goes = record {
     added = goes.next;
@@ -123,7 +142,7 @@ module _ (site : Site) (added : History) (passed : List History) (start era : �
 pub front_again : (a b c : List ℕ) → TakesFront a b → TakesFront b c → TakesFront a c
 front_again a b c first second = (first.0 ++ second.0, first.1 ∙ ap (λ (l : List ℕ). first.0 ++ l) second.1 ∙ sym (append_assoc first.0 second.0 c))
 
--- what lasts from turn to turn
+-- what lasts from step to step
 pub record KeepsOn (tells_disk tells_source : Bool) (first_era now_era : EraView) (first work : Work) (first_ledger ledger : Ledger)
     (first_left left : List ℕ) (first_faults faults : ℕ) : Type 0 where
   pub may : MayUse now_era ledger
@@ -162,7 +181,7 @@ quiet_holds site added passed mid_work work start mid_last last mid_bytes bytes 
 }
 
 -- the rest of the run goes on from the logs passed
-passed_front : (spaces : List Space) (moment : ℕ) (text : List ℕ) (place : Place) (ending : Ending) → ending ≡ run_text spaces moment text place → Extends place.passed ending.passed
+passed_front : (spaces : List Space) (moment : ℕ) (text : List ℕ) (place : ScriptState) (ending : Ending) → ending ≡ run_text spaces moment text place → Extends place.passed ending.passed
 passed_front spaces moment text place ending is =
     subst (λ (e : Ending). Extends place.passed e.passed) (sym is) (passed-run_lines spaces moment (raw_lines text) place)
 
@@ -180,16 +199,16 @@ module _ (spaces : List Space) (moment : ℕ) (site : Site) (added : History) (p
   all_walk same = walk_still site ending.passed start old mid new
       (widened site passed ending.passed start old mid (passed_front spaces moment before (stands_at mid_work site added passed) ending is) holds.walk) same.2
 
-  pub lines_end : (stop : Stop) → Turns spaces moment site added passed before after mid_work work last bytes era mid new (Some stop)
+  pub lines_end : (stop : Stop) → TakesStep spaces moment site added passed before after mid_work work last bytes era mid new (Some stop)
       → (IsQuiet (Some stop) → Untouched) → LinesEnd site ending after work start last bytes old new stop
-  lines_end End turned quiet = (turned.0, record { added = added; passed = passed; holds = kept (quiet tt); is = is ∙ turned.1 })
-  lines_end (Fault why) turned quiet = record { added = added; passed = passed; holds = kept (quiet tt); is = is ∙ turned }
-  lines_end Full turned quiet = record { added = added; passed = passed; holds = kept (quiet tt); is = is ∙ turned }
-  lines_end ReadFault turned quiet = all_walk (quiet tt)
-  lines_end OutOfMemory turned quiet = all_walk (quiet tt)
-  lines_end DiskFault turned quiet =
+  lines_end End resets quiet = (resets.0, record { added = added; passed = passed; holds = kept (quiet tt); is = is ∙ resets.1 })
+  lines_end (Fault why) resets quiet = record { added = added; passed = passed; holds = kept (quiet tt); is = is ∙ resets }
+  lines_end Full resets quiet = record { added = added; passed = passed; holds = kept (quiet tt); is = is ∙ resets }
+  lines_end ReadFault resets quiet = all_walk (quiet tt)
+  lines_end OutOfMemory resets quiet = all_walk (quiet tt)
+  lines_end DiskFault resets quiet =
       let batch = (stands_at work site added passed).collected.batch in
-      let goes = is ∙ turned.goes in
+      let goes = is ∙ resets.goes in
       let extends = passed_front spaces moment after (appended (stands_at work site added passed)) ending goes in
       breaks_off site added passed start era old mid new le mid_work mid_last mid_bytes holds batch ending
-      (subst (λ (h : History). Extends (passed ++ h ∷ []) ending.passed) (append_assoc site.history added batch) extends) turned.images
+      (subst (λ (h : History). Extends (passed ++ h ∷ []) ending.passed) (append_assoc site.history added batch) extends) resets.images

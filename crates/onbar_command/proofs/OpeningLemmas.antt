@@ -129,19 +129,19 @@ module _ (file : List ℕ) (held : ℕ) (state : LogState) (is : ReadsTo file he
   pub reads_whole : held ≡ used log_area file → Reads is.history file
   reads_whole all = reads (omega (arith, all))
 
-  pub is_stray_slot : held ≡ used log_area file → 73728 ≤ length file → (slot : ℕ) → state.stray ≡ Some slot → IsBadPlace file slot
-  is_stray_slot all long slot stray = inr (
+  pub is_out_of_order_slot : held ≡ used log_area file → 73728 ≤ length file → (slot : ℕ) → state.out_of_order ≡ Some slot → IsBadPlace file slot
+  is_out_of_order_slot all long slot out_of_order = inr (
     long,
     inr (record {
       history = is.history;
       reads = reads_whole all;
       all = is.counted ∙ all;
-      stray = sym is.state.stray ∙ stray;
+      out_of_order = sym is.state.out_of_order ∙ out_of_order;
     }),
   )
 
-  pub can_open : state.stray ≡ None → CanOpen is.history
-  can_open none = record { back = is.back; no_stray = sym is.state.stray ∙ none }
+  pub can_open : state.out_of_order ≡ None → CanOpen is.history
+  can_open none = record { back = is.back; in_order = sym is.state.out_of_order ∙ none }
 
 -- a slot that stops the reading is a bad place
 pub bad_place : (file : List ℕ) (held slot : ℕ) → StopsAtBad file held slot → held ≤ used log_area file → 73728 ≤ length file → IsBadPlace file slot
@@ -202,34 +202,34 @@ reading_bad file held OutOfMemory is le long = inl is
 -- as many slots are held as are in use, or as the disk holds whole
 module _ (file : List ℕ) (held count : ℕ) (state : LogState) (is : ReadsTo file held state) (count_is : count ≡ used log_area file)
     (long : 73728 ≤ length file) (le : held ≤ count) (cut : held < count → length file < 73728 + 128 * held + 128) (end : state.end ≡ held) where
-  pub found_bad : (slot : ℕ) → (if nat_lt state.end count then Some state.end else state.stray) ≡ Some slot → IsBadPlace file slot
+  pub found_bad : (slot : ℕ) → (if nat_lt state.end count then Some state.end else state.out_of_order) ≡ Some slot → IsBadPlace file slot
   found_bad slot found = elim (cases_lt state.end count) [
     | inl lt ↦
-        let first : (if nat_lt state.end count then Some state.end else state.stray) ≡ Some state.end = ap (λ (b : Bool). if b then Some state.end else state.stray) (lt-ltb state.end count lt) in
+        let first : (if nat_lt state.end count then Some state.end else state.out_of_order) ≡ Some state.end = ap (λ (b : Bool). if b then Some state.end else state.out_of_order) (lt-ltb state.end count lt) in
         let same : state.end ≡ slot = one (sym first ∙ found) in
         subst (IsBadPlace file) (sym end ∙ same) (cut_short file held state is (omega (arith, end, lt, count_is)) long (cut (omega (arith, end, lt))))
     | inr ge ↦
-        let other : (if nat_lt state.end count then Some state.end else state.stray) ≡ state.stray = ap (λ (b : Bool). if b then Some state.end else state.stray) (le-ltb state.end count ge) in
-        is_stray_slot file held state is (omega (arith, end, ge, le, count_is)) long slot (sym other ∙ found)
+        let other : (if nat_lt state.end count then Some state.end else state.out_of_order) ≡ state.out_of_order = ap (λ (b : Bool). if b then Some state.end else state.out_of_order) (le-ltb state.end count ge) in
+        is_out_of_order_slot file held state is (omega (arith, end, ge, le, count_is)) long slot (sym other ∙ found)
   ]
     where
       one : {a b : ℕ} → Some a ≡ Some b → a ≡ b
       one e = cc e
 
-  pub none_bad : (if nat_lt state.end count then Some state.end else state.stray) ≡ None → (held ≡ count) × (state.stray ≡ None)
+  pub none_bad : (if nat_lt state.end count then Some state.end else state.out_of_order) ≡ None → (held ≡ count) × (state.out_of_order ≡ None)
   none_bad found = elim (cases_lt state.end count) [
     | inl lt ↦
-        let first : (if nat_lt state.end count then Some state.end else state.stray) ≡ Some state.end = ap (λ (b : Bool). if b then Some state.end else state.stray) (lt-ltb state.end count lt) in
+        let first : (if nat_lt state.end count then Some state.end else state.out_of_order) ≡ Some state.end = ap (λ (b : Bool). if b then Some state.end else state.out_of_order) (lt-ltb state.end count lt) in
         absurd (never (sym first ∙ found))
     | inr ge ↦
-        let other : (if nat_lt state.end count then Some state.end else state.stray) ≡ state.stray = ap (λ (b : Bool). if b then Some state.end else state.stray) (le-ltb state.end count ge) in
+        let other : (if nat_lt state.end count then Some state.end else state.out_of_order) ≡ state.out_of_order = ap (λ (b : Bool). if b then Some state.end else state.out_of_order) (le-ltb state.end count ge) in
         (omega (arith, end, ge, le), sym other ∙ found)
   ]
     where
       never : {a : ℕ} → Some a ≡ None → ⊥
       never e = cc e
 
-  pub read_whole : (slots : SlotsView) → slots.used ≡ count → (if nat_lt state.end count then Some state.end else state.stray) ≡ None
+  pub read_whole : (slots : SlotsView) → slots.used ≡ count → (if nat_lt state.end count then Some state.end else state.out_of_order) ≡ None
       → IsReadWhole file (record { slots = slots; state = state })
   read_whole slots used_is found =
       let all = (none_bad found).0 in

@@ -49,6 +49,7 @@ nothing_read tells era bytes image ledger held state may is reads = record {
       read = omega (arith, u.read);
       written = u.written;
       synced = u.synced;
+      later = u.later;
     }
 
 -- images that a call leaves as they were stay those of the begin

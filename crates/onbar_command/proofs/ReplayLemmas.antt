@@ -5,21 +5,21 @@ use Rattle.std.specs.List.{AllByRecursion, flat_map}
 use Rattle.std.specs.Option.{option_map, option_or}
 use Rattle.std.proofs.lemmas.List.{append-nil, take-append-drop, length-reverse}
 use Rattle.std.proofs.lemmas.List.Concat.{flat_map-append}
-use Rattle.log_history.specs.History.{Patch, Entry, History, begin, write, commit, abort, reset}
+use Rattle.log_history.specs.History.{Patch, LogEntry, History, begin, write, commit, abort, reset}
 use Rattle.log_history.specs.Transactions.{OpenTxn, Table, Refusal, already_open, not_open, too_many_open, refusal, unless_new, lookup, without, with_write, after, table_of, last_time, last_time_back}
 use Rattle.txn_table.specs.Table.{fault_of}
 use Rattle.txn_table.specs.TableLaws.{table_of-push, reverse_push}
 use Rattle.txn_table.specs.declared.faults.OrderFault.{OrderFault}
 use Rattle.txn_table.specs.declared.faults.OrderFault.TheVariants.{NotOpen, OutOfMemory}
 use Rattle.log_record.specs.Layout.{IsRecord, spelling}
-use Rattle.site_model.specs.Openings.{GoesBack, AllGoBack, is_stray, first_stray, stray_back}
+use Rattle.site_model.specs.Openings.{GoesBack, AllGoBack, is_out_of_order, first_out_of_order, out_of_order_back}
 use Rattle.site_model.specs.Runs.{time_after}
 use Rattle.site_model.specs.Spelled.{AllByRecursion-append}
 use Rattle.onbar_command.specs.declared.replay.LogState.{LogState}
 use Rattle.onbar_command.specs.declared.replay.ReplayFault.{ReplayFault}
 use Rattle.onbar_command.specs.declared.replay.ReplayFault.TheVariants.{BadRecord, OutOfMemory as NoMemory}
-use Rattle.onbar_command.specs.Replays.{IsSameViews, IsStateOf, LiesWithin, MeetsBad, RunIs, ShowsPages, TakesRun, turns_after, view_after}
-use Rattle.onbar_command.proofs.ViewLemmas.{gone, shows_more, turns-push}
+use Rattle.onbar_command.specs.Replays.{IsSameViews, IsStateOf, LiesWithin, MeetsBad, RunIs, ShowsPages, TakesRun, reset_points_after, view_after}
+use Rattle.onbar_command.proofs.ViewLemmas.{gone, shows_more, reset_points-push}
 
 -- where a transaction isn't open, its records leave the table as it is
 without_none : (txn : ℕ) (table : Table) → lookup txn table ≡ None → without txn table ≡ table
@@ -41,7 +41,7 @@ with_write_none txn patch (o ∷ others) none = by (with_write_none txn patch ot
     by rest false is = ap (λ (t : Table). o ∷ t) (rest is)
 
 -- a record of a transaction that isn't open
-pub passes_over : (at : ℕ) (entry : Entry) (table : Table) → refusal entry table ≡ Some not_open → after at entry table ≡ table
+pub passes_over : (at : ℕ) (entry : LogEntry) (table : Table) → refusal entry table ≡ Some not_open → after at entry table ≡ table
 passes_over at (begin txn) table is = absurd (not_so (lookup txn table) is)
   where
     not_so : (found : Option OpenTxn) → (unless_new found (length table)) ≡ Some not_open → ⊥
@@ -68,71 +68,71 @@ not_open_is None result some none is = absurd (no_memory result none is)
     no_memory (Ok x) unless e = cc e
     no_memory (Err e) unless same = cc (unless, same)
 
-last_time-push : (past : History) (entry : Entry) → last_time (past ++ entry ∷ []) ≡ time_after (last_time past) entry
+last_time-push : (past : History) (entry : LogEntry) → last_time (past ++ entry ∷ []) ≡ time_after (last_time past) entry
 last_time-push past entry = ap last_time_back (reverse_push past entry) ∙ by entry
   where
-    by : (e : Entry) → last_time_back (e ∷ reverse past) ≡ time_after (last_time past) e
+    by : (e : LogEntry) → last_time_back (e ∷ reverse past) ≡ time_after (last_time past) e
     by (begin txn) = refl
     by (write txn patch) = refl
     by (commit txn time) = refl
     by (abort txn) = refl
     by (reset restore target time) = refl
 
--- where a record comes to stand that is the first stray one
-abbrev stray_at : Entry → Table → ℕ → Option ℕ
-stray_at entry table at = if is_stray entry table then Some at else None
+-- where a record comes to stand that is the first out_of_order one
+abbrev out_of_order_at : LogEntry → Table → ℕ → Option ℕ
+out_of_order_at entry table at = if is_out_of_order entry table then Some at else None
 
-first_stray-push : (past : History) (entry : Entry) → first_stray (past ++ entry ∷ []) ≡ option_or (first_stray past) (stray_at entry (table_of past) (length past))
-first_stray-push past entry =
-    ap stray_back (reverse_push past entry) ∙ ap (λ (n : ℕ). option_or (first_stray past) (stray_at entry (table_of past) n)) (length-reverse past)
+first_out_of_order-push : (past : History) (entry : LogEntry) → first_out_of_order (past ++ entry ∷ []) ≡ option_or (first_out_of_order past) (out_of_order_at entry (table_of past) (length past))
+first_out_of_order-push past entry =
+    ap out_of_order_back (reverse_push past entry) ∙ ap (λ (n : ℕ). option_or (first_out_of_order past) (out_of_order_at entry (table_of past) n)) (length-reverse past)
 
 none_of : (first second : Option ℕ) → option_or first second ≡ None → first ≡ None
 none_of None second is = refl
 none_of (Some n) second is = cc is
 
 -- a state and the one after one record more
-pub record IsNext (entry : Entry) (old new : LogState) : Type 0 where
+pub record IsNext (entry : LogEntry) (old new : LogState) : Type 0 where
   pub end : new.end ≡ old.end + 1
   pub time : new.time ≡ time_after old.time entry
-  pub stray : new.stray ≡ option_or old.stray (stray_at entry old.open old.end)
-  pub table : old.stray ≡ None → new.stray ≡ None → new.open ≡ after (old.end + 1) entry old.open
-  pub turns : new.turns ≡ turns_after (old.end + 1) entry old.turns
-  pub view : old.stray ≡ None → new.stray ≡ None → new.view ≡ option_map (view_after (old.end + 1) entry old.open) old.view
+  pub out_of_order : new.out_of_order ≡ option_or old.out_of_order (out_of_order_at entry old.open old.end)
+  pub table : old.out_of_order ≡ None → new.out_of_order ≡ None → new.open ≡ after (old.end + 1) entry old.open
+  pub reset_points : new.reset_points ≡ reset_points_after (old.end + 1) entry old.reset_points
+  pub view : old.out_of_order ≡ None → new.out_of_order ≡ None → new.view ≡ option_map (view_after (old.end + 1) entry old.open) old.view
 
--- where a record is the first stray one, it is that of the history
-stray_more : (past : History) (entry : Entry) (old : LogState) → IsStateOf past old
-    → option_or old.stray (stray_at entry old.open old.end) ≡ first_stray (past ++ entry ∷ [])
-stray_more past entry old was =
-    ap (λ (s : Option ℕ). option_or s (stray_at entry old.open old.end)) was.stray ∙ by (first_stray past) refl ∙ sym (first_stray-push past entry)
+-- where a record is the first out_of_order one, it is that of the history
+out_of_order_more : (past : History) (entry : LogEntry) (old : LogState) → IsStateOf past old
+    → option_or old.out_of_order (out_of_order_at entry old.open old.end) ≡ first_out_of_order (past ++ entry ∷ [])
+out_of_order_more past entry old was =
+    ap (λ (s : Option ℕ). option_or s (out_of_order_at entry old.open old.end)) was.out_of_order ∙ by (first_out_of_order past) refl ∙ sym (first_out_of_order-push past entry)
   where
-    by : (first : Option ℕ) → first_stray past ≡ first
-        → option_or (first_stray past) (stray_at entry old.open old.end) ≡ option_or (first_stray past) (stray_at entry (table_of past) (length past))
+    by : (first : Option ℕ) → first_out_of_order past ≡ first
+        → option_or (first_out_of_order past) (out_of_order_at entry old.open old.end) ≡ option_or (first_out_of_order past) (out_of_order_at entry (table_of past) (length past))
     by (Some n) is = rw (is) refl
     by None is =
-        ap (λ (t : Table). option_or (first_stray past) (stray_at entry t old.end)) (was.table is)
-        ∙ ap (λ (n : ℕ). option_or (first_stray past) (stray_at entry (table_of past) n)) was.end
+        ap (λ (t : Table). option_or (first_out_of_order past) (out_of_order_at entry t old.end)) (was.table is)
+        ∙ ap (λ (n : ℕ). option_or (first_out_of_order past) (out_of_order_at entry (table_of past) n)) was.end
 
 -- the state after one record more
-module _ (past : History) (entry : Entry) (old new : LogState) (was : IsStateOf past old) (next : IsNext entry old new) where
+module _ (past : History) (entry : LogEntry) (old new : LogState) (was : IsStateOf past old) (next : IsNext entry old new) where
   at_is : old.end + 1 ≡ suc (length past)
   at_is = omega (arith, was.end)
 
-  stray_is : new.stray ≡ first_stray (past ++ entry ∷ [])
-  stray_is = next.stray ∙ stray_more past entry old was
+  out_of_order_is : new.out_of_order ≡ first_out_of_order (past ++ entry ∷ [])
+  out_of_order_is = next.out_of_order ∙ out_of_order_more past entry old was
 
-  none_before : first_stray (past ++ entry ∷ []) ≡ None → first_stray past ≡ None
-  none_before none = none_of (first_stray past) (stray_at entry (table_of past) (length past)) (sym (first_stray-push past entry) ∙ none)
+  none_before : first_out_of_order (past ++ entry ∷ []) ≡ None → first_out_of_order past ≡ None
+  none_before none = none_of (first_out_of_order past) (out_of_order_at entry (table_of past) (length past)) (sym (first_out_of_order-push past entry) ∙ none)
 
-  table_is : first_stray (past ++ entry ∷ []) ≡ None → new.open ≡ table_of (past ++ entry ∷ [])
+  table_is : first_out_of_order (past ++ entry ∷ []) ≡ None → new.open ≡ table_of (past ++ entry ∷ [])
   table_is none =
-      next.table (was.stray ∙ none_before none) (stray_is ∙ none)
+      next.table (was.out_of_order ∙ none_before none) (out_of_order_is ∙ none)
       ∙ ap (λ (n : ℕ). after n entry old.open) at_is
       ∙ ap (after (suc (length past)) entry) (was.table (none_before none)) ∙ sym (table_of-push past entry)
 
-  view_is : first_stray (past ++ entry ∷ []) ≡ None → IfSome new.view (ShowsPages (past ++ entry ∷ []))
+  view_is : first_out_of_order (past ++ entry ∷ []) ≡ None → IfSome new.view (ShowsPages (past ++ entry ∷ []))
   view_is none =
       shows_more past entry old.view new.view (was.view (none_before none))
-      (next.view (was.stray ∙ none_before none) (stray_is ∙ none)
+      (next.view (was.out_of_order ∙ none_before none) (out_of_order_is ∙ none)
       ∙ ap (λ (n : ℕ). option_map (view_after n entry old.open) old.view) at_is
       ∙ ap (λ (t : Table). option_map (view_after (suc (length past)) entry t) old.view) (was.table (none_before none)))
 
@@ -140,11 +140,11 @@ module _ (past : History) (entry : Entry) (old new : LogState) (was : IsStateOf 
   state_more = record {
     end = omega (arith, was.end, next.end, length-append past (entry ∷ []));
     time = next.time ∙ ap (λ (t : ℕ). time_after t entry) was.time ∙ sym (last_time-push past entry);
-    stray = stray_is;
+    out_of_order = out_of_order_is;
     table = table_is;
-    turns =
-        next.turns ∙ ap (λ (n : ℕ). turns_after n entry old.turns) at_is ∙ ap (turns_after (suc (length past)) entry) was.turns
-        ∙ sym (turns-push past entry);
+    reset_points =
+        next.reset_points ∙ ap (λ (n : ℕ). reset_points_after n entry old.reset_points) at_is ∙ ap (reset_points_after (suc (length past)) entry) was.reset_points
+        ∙ sym (reset_points-push past entry);
     view = view_is;
   }
 
@@ -174,7 +174,7 @@ partway_none past run first was back = record {
 }
 
 -- one record more
-pub partway_more : (past : History) (run rest slot others : List ℕ) (old new : LogState) (entry : Entry) → Partway past run rest old
+pub partway_more : (past : History) (run rest slot others : List ℕ) (old new : LogState) (entry : LogEntry) → Partway past run rest old
     → IsRecord entry → GoesBack old.end entry → slot ≡ spelling entry → slot ≡ take 128 rest → others ≡ drop 128 rest
     → IsNext entry old new → Partway past run others new
 partway_more past run rest slot others old new entry way is_record goes slot_is first_is others_is next = record {
@@ -209,7 +209,7 @@ all_taken past run rest now way none = record {
 
 -- or the next of them is bad
 pub meets_bad : (past : History) (run rest slot : List ℕ) (now : LogState) → Partway past run rest now → slot ≡ take 128 rest → 128 ≤ length rest
-    → ((entry : Entry) → IsRecord entry → GoesBack now.end entry → slot ≡ spelling entry → ⊥) → MeetsBad past run now.end
+    → ((entry : LogEntry) → IsRecord entry → GoesBack now.end entry → slot ≡ spelling entry → ⊥) → MeetsBad past run now.end
 meets_bad past run rest slot now way first_is long none = record {
   entries = way.done;
   rest = rest;

@@ -6,16 +6,14 @@ use Rattle.log_history.specs.History.{History}
 use Rattle.onbar_grammar.specs.Script.{raw_lines}
 use Rattle.site_disk.specs.Ledger.{EraView, Ledger, MayUse}
 use Rattle.std.specs.Prelude.{MatchOption, IfSome}
-use Rattle.site_headers.specs.Heads.{Head, IsHead}
 use Rattle.site_headers.specs.Headers.{HasHeader, catalogue_tail}
-use Rattle.site_headers.specs.HeaderLaws.{one_catalogue_header}
 use Rattle.site_model.specs.declared.disk_name.DiskName.{DiskName}
 use Rattle.site_model.specs.declared.disk_name.DiskName.TheVariants.{Cat, Spare, Boot, Log, Volume, Chunk}
 use Rattle.site_model.specs.declared.status.Status.{Status}
 use Rattle.site_model.specs.declared.status.Status.TheVariants.{Ok as Done}
 use Rattle.site_model.specs.Commands.{IsAmong, IsPassed, frame_of, IsSound}
 use Rattle.site_model.specs.Layouts.{Shows, StandFor, HoldsLog}
-use Rattle.site_model.specs.Runs.{Run, Ending, refused, run_of, run_lines, first_place, transactions}
+use Rattle.site_model.specs.Runs.{CommandResult, Ending, refused, run_of, run_lines, first_state, transactions}
 use Rattle.site_model.specs.Steps.{Passes, StandsAmong, ShowsOrRests}
 use Rattle.site_model.specs.Stops.{KeepsPromise, promise}
 use Rattle.site_model.specs.Texts.{counts_text, extension_text, status_text, is_commit_entry}
@@ -24,7 +22,7 @@ use Rattle.onbar_command.specs.declared.extending.Extended.{Extended}
 use Rattle.onbar_command.specs.declared.report.Report.{Report}
 use Rattle.onbar_command.specs.declared.report.Report.TheVariants.{Extended as LogExtended}
 use Rattle.onbar_command.specs.declared.site.SiteDisks.{SiteDisks}
-use Rattle.onbar_command.specs.Disks.{bytes_or, contents_of, disk_of, image_or, images_of, may_or, scene_of, written_of, MayUseAll, Rests}
+use Rattle.onbar_command.specs.Disks.{bytes_or, contents_of, disk_of, image_or, images_of, may_or, scene_of, written_of, MayUseAll, NotSynced}
 use Rattle.onbar_command.specs.Extending.{ExtendsTo}
 use Rattle.onbar_command.specs.Forms.{IsDone, status_told, text_told}
 use Rattle.onbar_command.specs.Walks.{IsOneOf, IsOnTheWay, LogWalk}
@@ -99,11 +97,11 @@ text_is before last added is =
 -- the run of an extended log is done
 module _ {D : Type 0} (disks : SiteDisks D) (cat log : D) (bytes_of : D → List ℕ) (image : D → ℕ → List ℕ → Type 0) (entry : ℕ) (rests : DiskName → Type 0)
     (site : Site) (moment : ℕ) (script : List ℕ) (start now : ℕ) (old : ℕ → List ℕ → Type 0) where
-  abbrev pub run_here : Run
+  abbrev pub run_here : CommandResult
   run_here = transactions moment site script
 
   abbrev pub ending_here : Ending
-  ending_here = run_lines site.head.spaces moment (raw_lines script) (first_place site.history)
+  ending_here = run_lines site.head.spaces moment (raw_lines script) (first_state site.history)
 
   pub extended_done : (after : List ℕ) (told : Extended) → ExtendsTo site ending_here after start now (bytes_of log) old (image log) (Ok told)
       → HasHeader (catalogue_tail site.head) (bytes_of cat)
@@ -146,9 +144,9 @@ module _ {D : Type 0} (disks : SiteDisks D) (cat log : D) (bytes_of : D → List
   pub entered : ((f : ℕ) (c : List ℕ) → entry + 1 < f → image cat f c → (c ≡ bytes_of disks.cat) ⊎ ((ledger cat).synced ≡ (ledger disks.cat).synced))
       → ((f : ℕ) (c : List ℕ) → entry + 1 < f → image log f c → (c ≡ bytes_of disks.log) ⊎ ((ledger log).synced ≡ (ledger disks.log).synced))
       → (world : World) → StandFor (contents_of bytes_of disks) world → (passed : World → Type 0) → passed world
-      → Passes (frame_of entry (images_of image disks) (Rests ledger disks (moved disks cat log)) passed) (images_of image (moved disks cat log))
+      → Passes (frame_of entry (images_of image disks) (NotSynced ledger disks (moved disks cat log)) passed) (images_of image (moved disks cat log))
   entered cat_shows log_shows world stand passed counts =
-      passes_so disks cat log image entry (Rests ledger disks (moved disks cat log)) passed (λ f c le is. cat_none f c is) (λ f c le is. log_none f c is)
+      passes_so disks cat log image entry (NotSynced ledger disks (moved disks cat log)) passed (λ f c le is. cat_none f c is) (λ f c le is. log_none f c is)
       (λ f lt a b of_cat of_log. (
         world,
         counts,
@@ -161,14 +159,14 @@ module _ {D : Type 0} (disks : SiteDisks D) (cat log : D) (bytes_of : D → List
       (log_only : (f : ℕ) (c : List ℕ) → entry + 1 < f → image log f c → c ≡ bytes_of disks.log)
       (cat_bytes : bytes_of cat ≡ bytes_of disks.cat) (log_bytes : bytes_of log ≡ bytes_of disks.log) where
     pub refused_done : (world : World) → StandFor (contents_of bytes_of disks) world → (reads : Bool) (after : List ℕ) (status : Status) → (status ≡ Done → ⊥)
-        → IsDone reads (refused world status) after (contents_of bytes_of (moved disks cat log)) (now + 1) (frame_of entry (images_of image disks) (Rests ledger disks (moved disks cat log)))
+        → IsDone reads (refused world status) after (contents_of bytes_of (moved disks cat log)) (now + 1) (frame_of entry (images_of image disks) (NotSynced ledger disks (moved disks cat log)))
         (images_of image (moved disks cat log)) (Err status)
     refused_done world stand reads after status not_done = record {
       status = refl;
       text = refl;
       stands = stand_for disks cat log bytes_of world (subst (λ (c : List ℕ). Shows Cat world c) (sym cat_bytes) (stand Cat))
           (subst (λ (c : List ℕ). Shows Log world c) (sym log_bytes) (stand Log));
-      crash = λ f le. stands_so disks cat log image entry (Rests ledger disks (moved disks cat log)) (λ w. w ≡ world) f
+      crash = λ f le. stands_so disks cat log image entry (NotSynced ledger disks (moved disks cat log)) (λ w. w ≡ world) f
           (λ a b of_cat of_log. (
             world,
             refl,
@@ -179,9 +177,9 @@ module _ {D : Type 0} (disks : SiteDisks D) (cat log : D) (bytes_of : D → List
     }
 
     -- a form that read only
-    pub rested_done : (world : World) → StandFor (contents_of bytes_of disks) world → (run : Run) → run.last ≡ world → (after : List ℕ) (result : Result Report Status)
+    pub rested_done : (world : World) → StandFor (contents_of bytes_of disks) world → (run : CommandResult) → run.last ≡ world → (after : List ℕ) (result : Result Report Status)
         → run.status ≡ status_told result → run.text ≡ text_told result
-        → IsDone false run after (contents_of bytes_of (moved disks cat log)) (now + 1) (frame_of entry (images_of image disks) (Rests ledger disks (moved disks cat log)))
+        → IsDone false run after (contents_of bytes_of (moved disks cat log)) (now + 1) (frame_of entry (images_of image disks) (NotSynced ledger disks (moved disks cat log)))
         (images_of image (moved disks cat log)) result
     rested_done world stand run last after result status text = record {
       status = status;
@@ -189,7 +187,7 @@ module _ {D : Type 0} (disks : SiteDisks D) (cat log : D) (bytes_of : D → List
       stands = subst (λ (w : World). StandFor (contents_of bytes_of (moved disks cat log)) w) (sym last)
           (stand_for disks cat log bytes_of world (subst (λ (c : List ℕ). Shows Cat world c) (sym cat_bytes) (stand Cat))
           (subst (λ (c : List ℕ). Shows Log world c) (sym log_bytes) (stand Log)));
-      crash = λ f le. stands_so disks cat log image entry (Rests ledger disks (moved disks cat log)) (λ w. w ≡ run.last) f
+      crash = λ f le. stands_so disks cat log image entry (NotSynced ledger disks (moved disks cat log)) (λ w. w ≡ run.last) f
           (λ a b of_cat of_log. (
             world,
             sym last,
@@ -242,8 +240,8 @@ unwritten {D} ledger old new same cat log (Volume n) = rw (ap (λ (d : SiteDisks
 unwritten {D} ledger old new same cat log (Chunk n) = rw (ap (λ (d : SiteDisks D). d.chunks) same) (omega arith)
 
 -- a command that uses no disk
-pub passes_still : {D : Type 0} (image : D → ℕ → List ℕ → Type 0) (ledger : D → Ledger) (entry : ℕ) (disks : SiteDisks D) (world : World) (run : Run)
-    → Passes (frame_of entry (images_of image disks) (Rests ledger disks disks) (IsPassed world run)) (images_of image disks)
+pub passes_still : {D : Type 0} (image : D → ℕ → List ℕ → Type 0) (ledger : D → Ledger) (entry : ℕ) (disks : SiteDisks D) (world : World) (run : CommandResult)
+    → Passes (frame_of entry (images_of image disks) (NotSynced ledger disks disks) (IsPassed world run)) (images_of image disks)
 passes_still image ledger entry disks world run = record {
   earlier = λ f name bytes le is. is;
   later = λ f lt choice images. (world, inl refl, λ name. inr (refl, images name));
@@ -261,8 +259,8 @@ module _ {D : Type 0} (bytes : D → List ℕ) (image : D → ℕ → List ℕ �
   counts_or None may f c lt is = is
   counts_or (Some disk) may f c lt is = let past = may.not_past in counts disk era.number f c past (omega arith) is
 
-  pub promised_so : (old new : SiteDisks D) (world : World) (run : Run) → MayUseAll ledger era old
-      → Passes (frame_of era.number (images_of image old) (Rests ledger old new) (IsPassed world run)) (images_of image new)
+  pub promised_so : (old new : SiteDisks D) (world : World) (run : CommandResult) → MayUseAll ledger era old
+      → Passes (frame_of era.number (images_of image old) (NotSynced ledger old new) (IsPassed world run)) (images_of image new)
       → IsSound era.number (images_of image old) → KeepsPromise (scene_of bytes image ledger era.number old new world run)
   promised_so old new world run may passes sound =
       promise (scene_of bytes image ledger era.number old new world run) passes sound
@@ -276,10 +274,6 @@ at_some {X} found x A B is holds = subst (λ (o : Option X). MatchOption o A B) 
 
 pub if_some : {X : Type 0} (found : Option X) (x : X) (B : X → Type 0) → found ≡ Some x → IfSome found B → B x
 if_some {X} found x B is holds = subst (λ (o : Option X). IfSome o B) is holds
-
--- no disk has two catalogue headers
-pub one_head : (a b : Head) (file : List ℕ) → IsHead a → IsHead b → HasHeader (catalogue_tail a) file → HasHeader (catalogue_tail b) file → a ≡ b
-one_head a b file head_a head_b first second = one_catalogue_header a b head_a head_b (sym first.tail_stands ∙ second.tail_stands)
 
 pub with_log : {D : Type 0} (log : D) (new old : SiteDisks D) → new ≡ old → record new { log = log } ≡ record old { log = log }
 with_log {D} log new old same = ap {A = SiteDisks D} {B = SiteDisks D} (λ (d : SiteDisks D). record d { log = log }) same

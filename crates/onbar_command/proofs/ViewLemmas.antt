@@ -6,8 +6,8 @@ use Rattle.std.specs.Option.{option_map}
 use Rattle.std.proofs.lemmas.Bool.{eqb-true}
 use Rattle.std.proofs.lemmas.List.{length-reverse}
 use Rattle.log_history.specs.Effects.{Change, Page, change_by}
-use Rattle.log_history.specs.History.{Patch, Entry, History, begin, write, commit, abort, reset}
-use Rattle.log_history.specs.Live.{live_by, turns, turns_back}
+use Rattle.log_history.specs.History.{Patch, LogEntry, History, begin, write, commit, abort, reset}
+use Rattle.log_history.specs.Live.{live_by, reset_points, reset_points_back}
 use Rattle.log_history.specs.Transactions.{OpenTxn, Table, not_open, refusal, unless_open, lookup, patches_of, without, with_write, after, given, table_of}
 use Rattle.txn_table.specs.TableLaws.{reverse_push}
 use Rattle.log_record.specs.Layout.{IsPatch, IsRecord}
@@ -17,11 +17,11 @@ use Rattle.space_pages.specs.Progress.{changes_until, given_at}
 use Rattle.space_pages.specs.ProgressLaws.{one_record_further, refused_gives_nothing}
 use Rattle.site_model.specs.Spelled.{AllByRecursion-append}
 use Rattle.onbar_command.specs.declared.replay.View.{View}
-use Rattle.onbar_command.specs.Replays.{IsSameView, IsSameViews, LiesWithin, ShowsPages, turns_after, view_after, with_changes}
+use Rattle.onbar_command.specs.Replays.{IsSameView, IsSameViews, LiesWithin, ShowsPages, reset_points_after, view_after, with_changes}
 
 pub same_views : (views : Option View) → IsSameViews views views
 same_views None = tt
-same_views (Some view) = record { space = refl; first = refl; count = refl; turns = refl; at = refl }
+same_views (Some view) = record { space = refl; first = refl; count = refl; reset_points = refl; at = refl }
 
 pub same_views_on : (first mid last : Option View) → IsSameViews first mid → IsSameViews mid last → IsSameViews first last
 same_views_on None None None is next = tt
@@ -33,7 +33,7 @@ same_views_on (Some first) (Some mid) (Some last) is next = record {
   space = next.space ∙ is.space;
   first = next.first ∙ is.first;
   count = next.count ∙ is.count;
-  turns = next.turns ∙ is.turns;
+  reset_points = next.reset_points ∙ is.reset_points;
   at = next.at ∙ is.at;
 }
 
@@ -48,7 +48,7 @@ forward_same view changes pages is =
       space = refl;
       first = refl;
       count = length-brought view.pages.space view.pages.first changes view.pages.pages;
-      turns = refl;
+      reset_points = refl;
       at = refl;
     })
 
@@ -60,11 +60,11 @@ forward_nothing : (view : PagesView) → forward view [] ≡ view
 forward_nothing view = ap (λ (pages : List Page). record view { pages = pages }) (brought-nil view.space view.first view.pages)
 
 -- what isn't live changes nothing
-pub not_live : (x : ℕ) (changes : List Change) (view : View) → live_by view.turns view.at x ≡ false → with_changes x changes view ≡ view
+pub not_live : (x : ℕ) (changes : List Change) (view : View) → live_by view.reset_points view.at x ≡ false → with_changes x changes view ≡ view
 not_live x changes view is = rw is (ap (λ (pages : PagesView). record view { pages = pages }) (forward_nothing view.pages))
 
 with_nothing : (x : ℕ) (view : View) → with_changes x [] view ≡ view
-with_nothing x view = by (live_by view.turns view.at x)
+with_nothing x view = by (live_by view.reset_points view.at x)
   where
     by : (live : Bool) → record view { pages = forward view.pages (if live then [] else []) } ≡ view
     by true = ap (λ (pages : PagesView). record view { pages = pages }) (forward_nothing view.pages)
@@ -80,40 +80,40 @@ gone None is = refl
 gone (Some o) is = cc is
 
 -- a record of a transaction that isn't open brings no view forward
-pub nothing_to_show : (x : ℕ) (entry : Entry) (table : Table) (views : Option View) → refusal entry table ≡ Some not_open
+pub nothing_to_show : (x : ℕ) (entry : LogEntry) (table : Table) (views : Option View) → refusal entry table ≡ Some not_open
     → views ≡ option_map (view_after x entry table) views
 nothing_to_show x entry table None is = refl
 nothing_to_show x entry table (Some view) is =
-    let none = refused_gives_nothing view.turns view.at x entry table not_open is in
+    let none = refused_gives_nothing view.reset_points view.at x entry table not_open is in
     ap (λ (v : View). Some v)
     (sym (ap (λ (changes : List Change). record view { pages = forward view.pages changes }) none
     ∙ ap (λ (pages : PagesView). record view { pages = pages }) (forward_nothing view.pages)))
 
 -- the pages after one record more
-module _ (past : History) (entry : Entry) (view : View) (is : ShowsPages past view) where
+module _ (past : History) (entry : LogEntry) (view : View) (is : ShowsPages past view) where
   further : ShowsPages (past ++ entry ∷ []) (view_after (suc (length past)) entry (table_of past) view)
   further =
       let space = view.pages.space in
       let first = view.pages.first in
       let begun = empty_pages (length view.pages.pages) in
-      let more = given_at view.turns view.at (suc (length past)) entry (table_of past) in
-      let here : view.pages.pages ≡ brought space first (changes_until view.turns view.at past) begun = ap (λ (p : PagesView). p.pages) is in
-      let all : brought space first more view.pages.pages ≡ brought space first (changes_until view.turns view.at (past ++ entry ∷ [])) begun =
-      ap (brought space first more) here ∙ sym (one_record_further view.turns view.at space first past entry begun) in
+      let more = given_at view.reset_points view.at (suc (length past)) entry (table_of past) in
+      let here : view.pages.pages ≡ brought space first (changes_until view.reset_points view.at past) begun = ap (λ (p : PagesView). p.pages) is in
+      let all : brought space first more view.pages.pages ≡ brought space first (changes_until view.reset_points view.at (past ++ entry ∷ [])) begun =
+      ap (brought space first more) here ∙ sym (one_record_further view.reset_points view.at space first past entry begun) in
       ap (λ (pages : List Page). record view.pages { pages = pages })
-      (all ∙ ap (λ (n : ℕ). brought space first (changes_until view.turns view.at (past ++ entry ∷ [])) (empty_pages n)) (sym (length-brought space first more view.pages.pages)))
+      (all ∙ ap (λ (n : ℕ). brought space first (changes_until view.reset_points view.at (past ++ entry ∷ [])) (empty_pages n)) (sym (length-brought space first more view.pages.pages)))
 
-pub shows_more : (past : History) (entry : Entry) (old new : Option View) → IfSome old (ShowsPages past)
+pub shows_more : (past : History) (entry : LogEntry) (old new : Option View) → IfSome old (ShowsPages past)
     → new ≡ option_map (view_after (suc (length past)) entry (table_of past)) old → IfSome new (ShowsPages (past ++ entry ∷ []))
 shows_more past entry None new is next = subst (λ (v : Option View). IfSome v (ShowsPages (past ++ entry ∷ []))) (sym next) tt
 shows_more past entry (Some view) new is next =
     subst (λ (v : Option View). IfSome v (ShowsPages (past ++ entry ∷ []))) (sym next) (further past entry view is)
 
 -- the Resets after one record more
-pub turns-push : (past : History) (entry : Entry) → turns (past ++ entry ∷ []) ≡ turns_after (suc (length past)) entry (turns past)
-turns-push past entry = ap turns_back (reverse_push past entry) ∙ by entry ∙ ap (λ (n : ℕ). turns_after (suc n) entry (turns past)) (length-reverse past)
+pub reset_points-push : (past : History) (entry : LogEntry) → reset_points (past ++ entry ∷ []) ≡ reset_points_after (suc (length past)) entry (reset_points past)
+reset_points-push past entry = ap reset_points_back (reverse_push past entry) ∙ by entry ∙ ap (λ (n : ℕ). reset_points_after (suc n) entry (reset_points past)) (length-reverse past)
   where
-    by : (e : Entry) → turns_back (e ∷ reverse past) ≡ turns_after (suc (length (reverse past))) e (turns past)
+    by : (e : LogEntry) → reset_points_back (e ∷ reverse past) ≡ reset_points_after (suc (length (reverse past))) e (reset_points past)
     by (begin txn) = refl
     by (write txn patch) = refl
     by (commit txn time) = refl
@@ -139,7 +139,7 @@ within_with_write txn patch (o ∷ others) is all = by (o.txn == txn) (within_wi
     by false rest = (all.0, rest)
 
 -- the Writes of the open transactions lie within a page, and so they do after a record
-pub after_within : (x : ℕ) (entry : Entry) (table : Table) → IsRecord entry → AllByRecursion LiesWithin table → AllByRecursion LiesWithin (after x entry table)
+pub after_within : (x : ℕ) (entry : LogEntry) (table : Table) → IsRecord entry → AllByRecursion LiesWithin table → AllByRecursion LiesWithin (after x entry table)
 after_within x (begin txn) table is all =
     AllByRecursion-append LiesWithin (without txn table) (record { txn = txn; first = x; patches = [] } ∷ []) (within_without txn table all) (tt, tt)
 after_within x (write txn patch) table is all = within_with_write txn patch table is.1 all
@@ -160,7 +160,7 @@ changes_within x [] all = tt
 changes_within x (patch ∷ patches) all = (all.0, changes_within x patches all.1)
 
 -- what a record gives lies within pages
-pub given_within : (x : ℕ) (entry : Entry) (table : Table) → AllByRecursion LiesWithin table → LieWithin (map (change_by x) (given entry table))
+pub given_within : (x : ℕ) (entry : LogEntry) (table : Table) → AllByRecursion LiesWithin table → LieWithin (map (change_by x) (given entry table))
 given_within x (begin txn) table all = tt
 given_within x (write txn patch) table all = tt
 given_within x (commit txn time) table all = changes_within x (patches_of (lookup txn table)) (within_lookup txn table all)

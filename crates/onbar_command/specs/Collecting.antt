@@ -1,6 +1,6 @@
 -- What a run has collected, as the model has it.
 use Rattle.std.specs.Prelude.{◌≡◌, ◌≤◌, ◌^◌, ℕ, ◌+◌, [], ◌∷◌, ◌++◌, length, Bool, true, false, ◌||◌, ◌==◌, Result, Ok, Err}
-use Rattle.log_history.specs.History.{Entry, begin, write, commit, abort, reset}
+use Rattle.log_history.specs.History.{LogEntry, begin, write, commit, abort, reset}
 use Rattle.log_history.specs.Transactions.{after, refusal}
 use Rattle.std.specs.List.{AllByRecursion}
 use Rattle.log_record.specs.Entry.{history_of}
@@ -45,7 +45,7 @@ limit_after (Ok Whole) = 32
 limit_after (Err why) = 32
 
 -- a Commit or an Abort ends a batch
-abbrev pub is_ending : Entry → Bool
+abbrev pub is_ending : LogEntry → Bool
 is_ending (begin txn) = false
 is_ending (write txn patch) = false
 is_ending (commit txn time) = true
@@ -53,10 +53,10 @@ is_ending (abort txn) = true
 is_ending (reset restore target time) = false
 
 -- what a record does that a line puts into the log
-abbrev pub joins : ℕ → Entry → Collected → Meant
+abbrev pub joins : ℕ → LogEntry → Collected → Meant
 joins end entry c =
     let batch = c.batch ++ entry ∷ [] in
     joined (record { batch = batch; table = after (end + length c.batch + 1) entry c.table; time = time_after c.time entry }) (is_ending entry || length batch == 32)
 
-abbrev pub JoinsAs : Entry → ℕ → Collected → Result Taken Why → Collected → Type 0
+abbrev pub JoinsAs : LogEntry → ℕ → Collected → Result Taken Why → Collected → Type 0
 JoinsAs entry end before result after = TakesAs (unless_refused (refusal entry before.table) (joins end entry before)) result after

@@ -3,7 +3,7 @@ use Rattle.std.specs.Prelude.{◌≡◌, ◌≤◌, ℕ, List, [], slice_get, Op
 use Rattle.site_disk.specs.Ledger.{EraView, Ledger, MayUse}
 use Rattle.site_model.specs.declared.disk_name.DiskName.{DiskName}
 use Rattle.site_model.specs.declared.disk_name.DiskName.TheVariants.{Cat, Spare, Boot, Log, Volume, Chunk}
-use Rattle.site_model.specs.Runs.{Run}
+use Rattle.site_model.specs.Runs.{CommandResult}
 use Rattle.site_model.specs.Steps.{ImagesOf}
 use Rattle.site_model.specs.Stops.{Scene}
 use Rattle.site_model.specs.Worlds.{World}
@@ -13,6 +13,11 @@ use Rattle.onbar_command.specs.declared.site.SiteDisks.{SiteDisks}
 pub record IsKept (old_ledger new_ledger : Ledger) (old_bytes new_bytes : List ℕ) (old new : ℕ → List ℕ → Type 0) : Type 0 where
   pub written : new_ledger.written ≤ old_ledger.written
   pub bytes : new_bytes ≡ old_bytes
+  pub images : (f : ℕ) (c : List ℕ) → new f c → old f c
+
+-- nothing was written on a disk, and a crash leaves no more of it; one that failed may read otherwise
+pub record IsUnwritten (old_ledger new_ledger : Ledger) (old new : ℕ → List ℕ → Type 0) : Type 0 where
+  pub written : new_ledger.written ≤ old_ledger.written
   pub images : (f : ℕ) (c : List ℕ) → new f c → old f c
 
 module _ {D : Type 0} where
@@ -45,8 +50,8 @@ module _ {D : Type 0} where
   synced_or ledger (Some disk) = (ledger disk).synced
 
   -- no sync of the disk has succeeded since
-  abbrev pub Rests : (D → Ledger) → SiteDisks D → SiteDisks D → DiskName → Type 0
-  Rests ledger old new name = synced_or ledger (disk_of new name) ≡ synced_or ledger (disk_of old name)
+  abbrev pub NotSynced : (D → Ledger) → SiteDisks D → SiteDisks D → DiskName → Type 0
+  NotSynced ledger old new name = synced_or ledger (disk_of new name) ≡ synced_or ledger (disk_of old name)
 
   abbrev pub faults_or : (D → Ledger) → Option D → ℕ
   faults_or ledger None = 0
@@ -76,14 +81,19 @@ module _ {D : Type 0} where
     pub reads : (name : DiskName) → contents_of bytes new name ≡ contents_of bytes old name
     pub images : (f : ℕ) (name : DiskName) (c : List ℕ) → images_of image new f name c → images_of image old f name c
 
+  -- nothing was written on any disk, and a crash leaves no more of one; one that failed may read otherwise
+  pub record AreUnwritten (image : D → ℕ → List ℕ → Type 0) (ledger : D → Ledger) (old new : SiteDisks D) : Type 0 where
+    pub written : (name : DiskName) → written_of ledger new name ≤ written_of ledger old name
+    pub images : (f : ℕ) (name : DiskName) (c : List ℕ) → images_of image new f name c → images_of image old f name c
+
   -- a command from one era on: what it makes of a world, and the disks before and after it
-  abbrev pub scene_of : (D → List ℕ) → (D → ℕ → List ℕ → Type 0) → (D → Ledger) → ℕ → SiteDisks D → SiteDisks D → World → Run → Scene
+  abbrev pub scene_of : (D → List ℕ) → (D → ℕ → List ℕ → Type 0) → (D → Ledger) → ℕ → SiteDisks D → SiteDisks D → World → CommandResult → Scene
   scene_of bytes image ledger entry old new world run = record {
     entry = entry;
     old = images_of image old;
     new = images_of image new;
     contents = contents_of bytes old;
-    rests = Rests ledger old new;
+    rests = NotSynced ledger old new;
     begin = world;
     run = run;
   }

@@ -5,11 +5,11 @@ use Rattle.site_model.specs.declared.status.Status.{Status}
 use Rattle.site_model.specs.declared.status.Status.TheVariants.{Ok as Done, ScriptFault, LogFull}
 use Rattle.site_model.specs.declared.status.LogFull.TheVariants.{Positions}
 use Rattle.site_model.specs.Worlds.{Site}
-use Rattle.site_model.specs.Runs.{Place, Ending, ended, ends_at}
+use Rattle.site_model.specs.Runs.{ScriptState, Ending, ended, ends_at}
 use Rattle.onbar_command.specs.declared.transactions.Work.{Work}
 use Rattle.onbar_command.specs.declared.transactions.Stop.{Stop}
 use Rattle.onbar_command.specs.declared.transactions.Stop.TheVariants.{End, Fault, Full, ReadFault, DiskFault, OutOfMemory}
-use Rattle.onbar_command.specs.Turns.{Between, HoldsEither, stands_at}
+use Rattle.onbar_command.specs.ScriptSteps.{Between, HoldsEither, stands_at}
 use Rattle.onbar_command.specs.Walks.{IsOnTheWay, LogWalk}
 
 -- the log holds the records added so far, and no stop has left anything else than the logs passed
@@ -19,7 +19,7 @@ pub record Holds (site : Site) (added : History) (passed : List History) (work :
   pub walk : LogWalk site passed start old new
 
 -- the lines are taken up to here, and the run ends so from this place
-pub record StopsAt (site : Site) (ending : Ending) (ends_from : Place → Ending) (work : Work) (start last : ℕ) (bytes : List ℕ) (old new : ℕ → List ℕ → Type 0) : Type 0 where
+pub record StopsAt (site : Site) (ending : Ending) (ends_from : ScriptState → Ending) (work : Work) (start last : ℕ) (bytes : List ℕ) (old new : ℕ → List ℕ → Type 0) : Type 0 where
   pub added : History
   pub passed : List History
   pub holds : Holds site added passed work start last bytes old new

@@ -5,7 +5,7 @@ use Rattle.site_model.specs.declared.disk_name.DiskName.TheVariants.{Log}
 use Rattle.site_model.specs.declared.status.Status.{Status}
 use Rattle.site_model.specs.declared.status.Status.TheVariants.{Ok as Done, OutOfMemory as NoMemory, ReadFault as SourceFault, DiskFault as DeviceFault, ScriptFault, BadRecord as BadSlot, LogLost as Lost, LogFull}
 use Rattle.site_model.specs.declared.status.LogFull.TheVariants.{Positions}
-use Rattle.site_model.specs.Commands.{CutsShort}
+use Rattle.site_model.specs.Commands.{CutsShort, IsOfWork}
 use Rattle.site_model.specs.Layouts.{HoldsLog}
 use Rattle.site_model.specs.LogLaws.{extended}
 use Rattle.site_model.specs.Runs.{Ending}
@@ -33,15 +33,8 @@ report_of ReadFault work = Err SourceFault
 report_of DiskFault work = Err (DeviceFault Log)
 report_of OutOfMemory work = Err NoMemory
 
--- the statuses at which the work of a script is done
-abbrev pub EndsScript : Status → Type 0
-EndsScript Done = Unit {0}
-EndsScript (ScriptFault line why) = Unit {0}
-EndsScript (LogFull why) = Unit {0}
-EndsScript status = ⊥
-
 abbrev pub IsUncut : Extended → Type 0
-IsUncut told = EndsScript told.status
+IsUncut told = IsOfWork told.status
 
 -- The run was done: the log holds the last of its logs, and a crash in an era behind the present one leaves that.
 pub record IsExtended (site : Site) (ending : Ending) (after : List ℕ) (start now : ℕ) (bytes : List ℕ) (old new : ℕ → List ℕ → Type 0) (told : Extended) : Type 0 where

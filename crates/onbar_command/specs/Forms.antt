@@ -2,13 +2,13 @@
 use Rattle.std.specs.Prelude.{◌≡◌, ◌⊎◌, ℕ, List, [], ◌++◌, Bool, true, false, Result, Ok, Err}
 use Rattle.std.specs.List.{flat_map}
 use Rattle.onbar_grammar.specs.Words.{Command, CommandForm, init_form, transactions_form, show_form}
-use Rattle.onbar_words.specs.SpaceHead.{spaces_of}
+use Rattle.site_headers.specs.Views.{spaces_of}
 use Rattle.site_model.specs.declared.disk_name.DiskName.{DiskName}
 use Rattle.site_model.specs.declared.status.Status.{Status}
 use Rattle.site_model.specs.declared.status.Status.TheVariants.{Ok as Done}
 use Rattle.site_model.specs.Commands.{CutsShort, AtItsEnd}
 use Rattle.site_model.specs.Layouts.{StandFor}
-use Rattle.site_model.specs.Runs.{Run}
+use Rattle.site_model.specs.Runs.{CommandResult}
 use Rattle.site_model.specs.Steps.{ImagesOf, Frame}
 use Rattle.site_model.specs.Texts.{space_text, counts_text, status_text}
 use Rattle.site_model.specs.Worlds.{World}
@@ -30,7 +30,7 @@ text_told (Ok (PagesShown shown)) = text_of_shown shown ++ status_text Done
 text_told (Err status) = status_text status
 
 -- the work is done, and only its text is to be printed; a form that reads its script read it to its end at Ok
-pub record IsDone (reads : Bool) (run : Run) (after : List ℕ) (contents : DiskName → List ℕ) (era : ℕ) (frame : (World → Type 0) → Frame World) (new : ImagesOf)
+pub record IsDone (reads : Bool) (run : CommandResult) (after : List ℕ) (contents : DiskName → List ℕ) (era : ℕ) (frame : (World → Type 0) → Frame World) (new : ImagesOf)
     (result : Result Report Status) : Type 0 where
   pub status : run.status ≡ status_told result
   pub text : run.text ≡ text_told result
@@ -39,7 +39,7 @@ pub record IsDone (reads : Bool) (run : Run) (after : List ℕ) (contents : Disk
   pub read : reads ≡ true → status_told result ≡ Done → after ≡ []
 
 -- or it was cut short
-abbrev pub Finishes : Bool → Run → List ℕ → (DiskName → List ℕ) → ℕ → ((World → Type 0) → Frame World) → ImagesOf → Result Report Status → Type 0
+abbrev pub Finishes : Bool → CommandResult → List ℕ → (DiskName → List ℕ) → ℕ → ((World → Type 0) → Frame World) → ImagesOf → Result Report Status → Type 0
 Finishes reads run after contents era frame new (Ok told) = IsDone reads run after contents era frame new (Ok told)
 Finishes reads run after contents era frame new (Err status) = CutsShort status ⊎ IsDone reads run after contents era frame new (Err status)
 

@@ -10,5 +10,5 @@ pub mod Printing
 pub mod Replays
 pub mod Scripts
 pub mod Showing
-pub mod Turns
+pub mod ScriptSteps
 pub mod Walks

@@ -1,7 +1,7 @@
 -- A log that is open: its disk holds a site's records, and the slots agree with it.
 use Rattle.std.specs.Prelude.{◌≡◌, ◌⊎◌, ◌<◌, ℕ, List, length}
 use Rattle.log_history.specs.History.{History}
-use Rattle.gated_slots.specs.Slots.{SlotsView}
+use Rattle.gated_slots.specs.Slots.{SlotsView, OutsideArea}
 use Rattle.site_model.specs.Worlds.{Site}
 use Rattle.site_model.specs.Layouts.{HoldsLog, log_area}
 use Rattle.site_model.specs.LogLaws.{extended}
@@ -13,6 +13,7 @@ pub record IsReady (site : Site) (slots : SlotsView) (last : ℕ) (bytes : List 
   pub holds : HoldsLog site bytes
   pub later : (f : ℕ) (c : List ℕ) → last < f → images f c → HoldsLog site c
 
--- bytes that held a site's records hold them still, or these and a whole batch
-abbrev pub MayHold : Site → History → List ℕ → List ℕ → Type 0
-MayHold site batch old new = HoldsLog site old → HoldsLog site new ⊎ HoldsLog (extended site batch) new
+-- bytes that held a site's records hold them still, or these and a whole batch; apart from gates and slots nothing changes
+pub record MayHold (site : Site) (batch : History) (old new : List ℕ) : Type 0 where
+  pub holds : HoldsLog site old → HoldsLog site new ⊎ HoldsLog (extended site batch) new
+  pub elsewhere : OutsideArea log_area old new

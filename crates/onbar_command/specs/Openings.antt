@@ -1,7 +1,7 @@
 -- What opening a log comes to.
 use Rattle.std.specs.Prelude.{◌≡◌, ℕ, ◌+◌, ◌*◌, ◌<◌, List, length, reverse, Result, Ok, Err}
 use Rattle.std.specs.List.{AllByRecursion, flat_map}
-use Rattle.log_history.specs.History.{Entry, History}
+use Rattle.log_history.specs.History.{LogEntry, History}
 use Rattle.log_record.specs.Layout.{IsRecord, spelling}
 use Rattle.site_disk.specs.Bytes.{extent}
 use Rattle.site_headers.specs.Heads.{Head}
@@ -51,7 +51,7 @@ pub record StopsAtBad (file : List ℕ) (held slot : ℕ) : Type 0 where
   pub place : length past ≡ slot
   pub slots : extent 73728 (128 * slot) file ≡ flat_map spelling past
   pub within : slot < held
-  pub bad : (entry : Entry) → IsRecord entry → GoesBack slot entry → extent (73728 + 128 * slot) 128 file ≡ spelling entry → ⊥
+  pub bad : (entry : LogEntry) → IsRecord entry → GoesBack slot entry → extent (73728 + 128 * slot) 128 file ≡ spelling entry → ⊥
 
 abbrev pub RecordsComeTo : List ℕ → ℕ → Result LogState OpenFault → Type 0
 RecordsComeTo file held (Ok state) = ReadsTo file held state

@@ -3,14 +3,14 @@ use Rattle.std.specs.Prelude.{◌≡◌, ◌+◌, ◌≤◌, ℕ, List, []}
 use Rattle.log_history.specs.History.{History}
 use Rattle.onbar_grammar.specs.Script.{Space, raw_lines}
 use Rattle.site_model.specs.declared.status.Status.TheVariants.{Ok as Done, ScriptFault}
-use Rattle.site_model.specs.Runs.{Place, Ending, run_lines, go_on, after_batch, ended}
+use Rattle.site_model.specs.Runs.{ScriptState, Ending, run_lines, go_on, after_batch, ended}
 use Rattle.onbar_command.specs.declared.script.Progress.{Progress}
 use Rattle.onbar_command.specs.declared.script.Step.{Step}
 use Rattle.onbar_command.specs.declared.script.Step.TheVariants.{More, Whole, End, Fault, ReadFault, OutOfMemory}
 use Rattle.onbar_command.specs.Collecting.{collected_of}
 
 -- behind a log of these records, and the logs passed so far
-abbrev pub place_at : Progress → History → List History → Place
+abbrev pub place_at : Progress → History → List History → ScriptState
 place_at progress history passed = record {
   begun = progress.lines.begun;
   lines = progress.line;
@@ -19,11 +19,11 @@ place_at progress history passed = record {
   passed = passed;
 }
 
-abbrev pub run_text : List Space → ℕ → List ℕ → Place → Ending
+abbrev pub run_text : List Space → ℕ → List ℕ → ScriptState → Ending
 run_text spaces moment text place = run_lines spaces moment (raw_lines text) place
 
 -- what a step says of the whole run: the rest of the script goes on from the new place, or the run ends
-abbrev pub StepsTo : List Space → ℕ → List ℕ → List ℕ → Place → Place → Step → Type 0
+abbrev pub StepsTo : List Space → ℕ → List ℕ → List ℕ → ScriptState → ScriptState → Step → Type 0
 StepsTo spaces moment before after old new More = run_text spaces moment before old ≡ run_text spaces moment after new
 StepsTo spaces moment before after old new Whole = run_text spaces moment before old ≡ go_on (run_lines spaces moment (raw_lines after)) (after_batch new)
 StepsTo spaces moment before after old new End = (after ≡ []) × (run_text spaces moment before old ≡ ended Done new)

@@ -8,7 +8,7 @@ use Rattle.site_headers.specs.Heads.{Head}
 use Rattle.site_model.specs.declared.status.Status.{Status}
 use Rattle.site_model.specs.Commands.{CutsShort}
 use Rattle.site_model.specs.Layouts.{HoldsLog}
-use Rattle.site_model.specs.Openings.{CanOpen}
+use Rattle.site_model.specs.Openings.{CanOpen, LogRefuses}
 use Rattle.site_model.specs.Runs.{show_refusal, shown_text}
 use Rattle.site_model.specs.Worlds.{Site}
 use Rattle.space_pages.specs.Pages.{PagesView, pages_of, pages_view}
@@ -60,3 +60,8 @@ abbrev pub ShowsAs : Site → List ℕ → Option ℕ → Result Shown Status �
 ShowsAs site name page (Ok shown) =
     (show_refusal site.head.spaces name page ≡ None) × (text_of_shown shown ≡ shown_text site.history name page (place_of name site.head.spaces))
 ShowsAs site name page (Err status) = CutsShort status ⊎ (show_refusal site.head.spaces name page ≡ Some status)
+
+-- why a site doesn't show a space or a page: it has no such one, or its log can't be opened
+abbrev pub ShowRefuses : Head → List ℕ → Option ℕ → List ℕ → Status → Type 0
+ShowRefuses head name page log status =
+    (show_refusal head.spaces name page ≡ Some status) ⊎ ((show_refusal head.spaces name page ≡ None) × LogRefuses head.site log status)

@@ -43,13 +43,13 @@ pub fn append_batch<D: Disk>(
 
     ensures used { OnOk result (slots.new ≡ record slots.old { used = slots.old.used + length batch.now }) }
     ensures value { OnErr result (slots.new ≡ slots.old) }
-    ensures ready { IsTrue D.tells → (site : Site) → IsReady site slots.old (D.ledger disk.old).last (D.bytes disk.old) (D.image disk.old)
+    ensures ready { IsTrue D.is_modelled → (site : Site) → IsReady site slots.old (D.ledger disk.old).last (D.bytes disk.old) (D.image disk.old)
         → OnOk result (IsReady (extended site (history_of batch.now)) slots.new (D.ledger disk.new).last (D.bytes disk.new) (D.image disk.new)) }
-    ensures crash { IsTrue D.tells → (site : Site) → IsReady site slots.old (D.ledger disk.old).last (D.bytes disk.old) (D.image disk.old)
+    ensures crash { IsTrue D.is_modelled → (site : Site) → IsReady site slots.old (D.ledger disk.old).last (D.bytes disk.old) (D.image disk.old)
         → Leaves era.now.number (MayHold site (history_of batch.now)) (D.image disk.old) (D.image disk.new) }
 
     ensures ledger { Uses era.now 0 (slots.old.area.slots + 128 * slots.old.used + 128 * length batch.now + 1) (D.ledger disk.old) (D.ledger disk.new) }
-    ensures bound { IsTrue D.tells → (site : Site) → IsReady site slots.old (D.ledger disk.old).last (D.bytes disk.old) (D.image disk.old)
+    ensures bound { IsTrue D.is_modelled → (site : Site) → IsReady site slots.old (D.ledger disk.old).last (D.bytes disk.old) (D.image disk.old)
         → (D.ledger disk.new).written ≤ (D.ledger disk.old).written + 128 * length batch.now + 1 }
     ensures full { slots.old.area.capacity < slots.old.used + length batch.now → IsErrOf result (AppendFault.Full slots.old.used (length batch.now)) }
     ensures full_only { (used wanted : ℕ) → IsErrOf result (AppendFault.Full used wanted) → slots.old.area.capacity < slots.old.used + length batch.now }

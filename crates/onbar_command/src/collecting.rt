@@ -4,14 +4,16 @@ ghost use Rattle.std.specs.List.{AllByRecursion};
 ghost use Rattle.log_record.specs.Entry.{entry_of, history_of};
 ghost use Rattle.log_record.specs.Layout.{IsRecord};
 ghost use Rattle.onbar_grammar.specs.Script.{entry_of_line};
-ghost use Rattle.onbar_words.specs.SpaceHead.{spaces_of};
-ghost use Rattle.onbar_words.specs.TxnLine.{line_of_txn};
+ghost use Rattle.site_headers.specs.Views.{spaces_of};
+ghost use Rattle.script_lines.specs.TxnLine.{line_of_txn};
 ghost use Rattle.site_model.specs.Runs.{take_text};
 ghost use Rattle.onbar_command.specs.Collecting.{collected_of, order_why, TakesAs, JoinsAs, is_ending, IsBounded, limit_after};
 ghost use Rattle.site_headers.specs.Heads.{IsSpace};
 
 use log_record::Record;
-use onbar_words::{SpaceHead, TxnLine, Why, read_txn_line};
+use onbar_grammar::Why;
+use script_lines::{TxnLine, read_txn_line};
+use site_headers::SpaceHead;
 use std::alloc::Global;
 use txn_table::{Open, OrderFault};
 

@@ -1,10 +1,10 @@
 // The command `onbar`.
-ghost use Rattle.std.specs.Prelude.{◌≡◌, ◌⊎◌, ◌+◌, ◌*◌, ◌-◌, ◌<◌, ◌≤◌, ◌^◌, ◌++◌, ℕ, Err, true, false, length, map, string_bytes, IsTrue};
-ghost use Rattle.onbar_grammar.specs.Words.{command_of};
-ghost use Rattle.onbar_words.specs.Cutting.{TakesFront};
+ghost use Rattle.std.specs.Prelude.{◌≡◌, ◌⊎◌, ◌+◌, ◌*◌, ◌-◌, ◌<◌, ◌≤◌, ◌^◌, ◌++◌, ℕ, Ok, Err, true, false, length, map, string_bytes, IsTrue};
+ghost use Rattle.onbar_grammar.specs.Words.{Command, command_of};
+ghost use Rattle.script_lines.specs.Cutting.{TakesFront};
 ghost use Rattle.site_disk.specs.Causes.{Rose};
 ghost use Rattle.site_model.specs.declared.disk_name.DiskName.{DiskName};
-ghost use Rattle.site_model.specs.Commands.{CutsShort, Did, IsPassed, IsSound, Printed, ReadsOf, frame_of};
+ghost use Rattle.site_model.specs.Commands.{CutsShort, Did, ImagesWithin, IsOfWork, IsPassed, IsSound, MayChange, Printed, PrintsFront, ReadsOf, frame_of};
 ghost use Rattle.site_model.specs.Layouts.{StandFor};
 ghost use Rattle.site_model.specs.Openings.{IsOfDisks, IsOpenable, IsRefused, IsUsage, OpensFor};
 ghost use Rattle.site_model.specs.Runs.{reads_script, run};
@@ -15,7 +15,7 @@ ghost use Rattle.site_model.specs.Worlds.{World};
 ghost use Rattle.site_model.specs.declared.status.Status.{Status};
 ghost use Rattle.site_model.specs.declared.status.Status.TheVariants.{Usage};
 ghost use Rattle.onbar_command.specs.Forms.{shows_pages};
-ghost use Rattle.onbar_command.specs.Disks.{contents_of, images_of, faults_of, written_of, scene_of, AreKept, Rests, MayUseAll};
+ghost use Rattle.onbar_command.specs.Disks.{contents_of, images_of, faults_of, scene_of, AreKept, AreUnwritten, NotSynced, MayUseAll};
 
 use crate::form::run_words;
 use crate::printing::print_all;
@@ -48,38 +48,53 @@ pub fn onbar<R: Threads + Sync, D: Disk + Send, S: Source, K: Sink>(
 
     // The disks may hold any bytes. Either a form is refused for them, and at a refusal nothing is written, or they stand for
     // a world that can be opened.
-    ensures refused { IsTrue D.tells → IsTrue K.tells → (status : Status) → IsRefused (map string_bytes words.now) (contents_of D.bytes site.old.disks) status
-        → CutsShort result ⊎ ((result ≡ status) × (K.taken out.new ≡ K.taken out.old ++ status_text status)) }
-    ensures cause { IsTrue D.tells → IsOfDisks result → IsRefused (map string_bytes words.now) (contents_of D.bytes site.old.disks) result }
+    ensures refused { IsTrue D.is_modelled → (status : Status) → IsRefused (map string_bytes words.now) (contents_of D.bytes site.old.disks) status
+        → CutsShort result ⊎ ((result ≡ status) × (IsTrue K.is_modelled → K.taken out.new ≡ K.taken out.old ++ status_text status)) }
+    // However a refused form ends, its disks and its script are left alone, and nothing but its refusal is printed.
+    ensures harmless { IsTrue D.is_modelled → (status : Status) → IsRefused (map string_bytes words.now) (contents_of D.bytes site.old.disks) status
+        → AreUnwritten D.image D.ledger site.old.disks site.new.disks × (script.new ≡ script.old)
+        × (IsTrue K.is_modelled → PrintsFront (status_text status) (K.taken out.old) (K.taken out.new)) }
+    ensures cause { IsTrue D.is_modelled → IsOfDisks result → IsRefused (map string_bytes words.now) (contents_of D.bytes site.old.disks) result }
     ensures untouched { IsOfDisks result → AreKept D.bytes D.image D.ledger site.old.disks site.new.disks }
-    ensures opens { IsTrue D.tells → CutsShort result ⊎ (IsUsage (map string_bytes words.now) result ⊎ (IsOfDisks result ⊎ OpensFor (map string_bytes words.now) (contents_of D.bytes site.old.disks))) }
+    ensures opens { IsTrue D.is_modelled → CutsShort result ⊎ (IsUsage (map string_bytes words.now) result ⊎ (IsOfDisks result ⊎ OpensFor (map string_bytes words.now) (contents_of D.bytes site.old.disks))) }
+
+    // No other status comes: it is cut short, or refused at a word or for its disks, or its work is done.
+    ensures answers { CutsShort result ⊎ (IsUsage (map string_bytes words.now) result ⊎ (IsOfDisks result ⊎ IsOfWork result)) }
 
     // Wherever the command is stopped, each choice of crash images stands for a world of its run.
-    ensures stopped { IsTrue D.tells → IsTrue S.tells → (world : World) → IsOpenable world → StandFor (contents_of D.bytes site.old.disks) world
-        → Passes (frame_of era.old.number (images_of D.image site.old.disks) (Rests D.ledger site.old.disks site.new.disks)
+    ensures stopped { IsTrue D.is_modelled → (reads_script (command_of (map string_bytes words.now)) ≡ true → IsTrue S.is_modelled) → (world : World) → IsOpenable world → StandFor (contents_of D.bytes site.old.disks) world
+        → Passes (frame_of era.old.number (images_of D.image site.old.disks) (NotSynced D.ledger site.old.disks site.new.disks)
         (IsPassed world (run (map string_bytes words.now) moment world (S.left script.old)))) (images_of D.image site.new.disks) }
     // The same in plain words, where the crash images at entry stand for fit worlds.
-    ensures promised { IsTrue D.tells → IsTrue S.tells → (world : World) → IsOpenable world → StandFor (contents_of D.bytes site.old.disks) world
+    ensures promised { IsTrue D.is_modelled → (reads_script (command_of (map string_bytes words.now)) ≡ true → IsTrue S.is_modelled) → (world : World) → IsOpenable world → StandFor (contents_of D.bytes site.old.disks) world
         → IsSound era.old.number (images_of D.image site.old.disks)
         → KeepsPromise (scene_of D.bytes D.image D.ledger era.old.number site.old.disks site.new.disks world (run (map string_bytes words.now) moment world (S.left script.old))) }
     // At any status but those that cut it short it did what its run says: status, text, disks, and what a crash leaves.
-    ensures whole { IsTrue D.tells → IsTrue S.tells → IsTrue K.tells → (world : World) → IsOpenable world → StandFor (contents_of D.bytes site.old.disks) world
+    ensures whole { IsTrue D.is_modelled → (reads_script (command_of (map string_bytes words.now)) ≡ true → IsTrue S.is_modelled) → (world : World) → IsOpenable world → StandFor (contents_of D.bytes site.old.disks) world
         → (CutsShort result → ⊥)
-        → Did (run (map string_bytes words.now) moment world (S.left script.old)) result (K.taken out.old) (K.taken out.new) (contents_of D.bytes site.new.disks) era.new.number
-        (frame_of era.old.number (images_of D.image site.old.disks) (Rests D.ledger site.old.disks site.new.disks)) (images_of D.image site.new.disks) }
-    ensures cut { IsTrue D.tells → IsTrue S.tells → IsTrue K.tells → (world : World) → IsOpenable world → StandFor (contents_of D.bytes site.old.disks) world
+        → Did (run (map string_bytes words.now) moment world (S.left script.old)) result K.is_modelled (K.taken out.old) (K.taken out.new) (contents_of D.bytes site.new.disks) era.new.number
+        (frame_of era.old.number (images_of D.image site.old.disks) (NotSynced D.ledger site.old.disks site.new.disks)) (images_of D.image site.new.disks) }
+    // A form changes of its disks what it may, wherever it is stopped, and leaves all else as it was.
+    ensures images_within { IsTrue D.is_modelled → (reads_script (command_of (map string_bytes words.now)) ≡ true → IsTrue S.is_modelled) → (world : World) → IsOpenable world → StandFor (contents_of D.bytes site.old.disks) world
+        → (command : Command) → command_of (map string_bytes words.now) ≡ Ok command
+        → ImagesWithin command.form (contents_of D.bytes site.old.disks) (images_of D.image site.old.disks) (images_of D.image site.new.disks) }
+    ensures reads_within { IsTrue D.is_modelled → (reads_script (command_of (map string_bytes words.now)) ≡ true → IsTrue S.is_modelled) → (world : World) → IsOpenable world → StandFor (contents_of D.bytes site.old.disks) world
+        → (CutsShort result → ⊥) → (command : Command) → command_of (map string_bytes words.now) ≡ Ok command
+        → (name : DiskName) → MayChange command.form name (contents_of D.bytes site.old.disks name) (contents_of D.bytes site.new.disks name) }
+    ensures cut { IsTrue D.is_modelled → (reads_script (command_of (map string_bytes words.now)) ≡ true → IsTrue S.is_modelled) → IsTrue K.is_modelled → (world : World) → IsOpenable world → StandFor (contents_of D.bytes site.old.disks) world
         → CutsShort result
         → Printed (run (map string_bytes words.now) moment world (S.left script.old)) (K.taken out.old) (K.taken out.new) era.new.number
-        (frame_of era.old.number (images_of D.image site.old.disks) (Rests D.ledger site.old.disks site.new.disks)) (images_of D.image site.new.disks) }
-    ensures script { IsTrue D.tells → IsTrue S.tells → (world : World) → IsOpenable world → StandFor (contents_of D.bytes site.old.disks) world
+        (frame_of era.old.number (images_of D.image site.old.disks) (NotSynced D.ledger site.old.disks site.new.disks)) (images_of D.image site.new.disks) }
+    ensures script { IsTrue S.is_modelled
         → ReadsOf (map string_bytes words.now) result (S.left script.old) (S.left script.new) }
     ensures usage { (n : ℕ) → command_of (map string_bytes words.now) ≡ Err n
         → (site.new ≡ site.old) × (script.new ≡ script.old)
+        × (IsTrue K.is_modelled → PrintsFront (status_text (Usage n)) (K.taken out.old) (K.taken out.new))
         × ((result ≡ Status.Usage n) ⊎ ((result ≡ Status.OutOfMemory) ⊎ (result ≡ Status.WriteFault))) }
-    ensures usage_text { IsTrue K.tells → (n : ℕ) → result ≡ Status.Usage n → K.taken out.new ≡ K.taken out.old ++ status_text (Usage n) }
+    ensures usage_text { IsTrue K.is_modelled → (n : ℕ) → result ≡ Status.Usage n → K.taken out.new ≡ K.taken out.old ++ status_text (Usage n) }
 
     // Where no device, source or sink failed, nothing but want of memory keeps it from what its run says.
-    ensures complete { IsTrue D.tells → IsTrue S.tells → IsTrue K.tells → (world : World) → IsOpenable world → StandFor (contents_of D.bytes site.old.disks) world
+    ensures complete { IsTrue D.is_modelled → (reads_script (command_of (map string_bytes words.now)) ≡ true → IsTrue S.is_modelled) → (world : World) → IsOpenable world → StandFor (contents_of D.bytes site.old.disks) world
         → (Rose (S.faults script.old) (S.faults script.new) → ⊥) → (Rose (K.faults out.old) (K.faults out.new) → ⊥)
         → ((name : DiskName) → Rose (faults_of D.ledger site.old.disks name) (faults_of D.ledger site.new.disks name) → ⊥)
         → (result ≡ (run (map string_bytes words.now) moment world (S.left script.old)).status) ⊎ (result ≡ Status.OutOfMemory) }
@@ -98,10 +113,10 @@ pub fn onbar<R: Threads + Sync, D: Disk + Send, S: Source, K: Sink>(
     ensures log_read_once { shows_pages (command_of (map string_bytes words.now)) ≡ false
         → (D.ledger site.new.disks.log).read ≤ (D.ledger site.old.disks.log).read + 8458240 }
     ensures shows_unwritten { shows_pages (command_of (map string_bytes words.now)) ≡ true
-        → (name : DiskName) → written_of D.ledger site.new.disks name ≤ written_of D.ledger site.old.disks name }
+        → AreUnwritten D.image D.ledger site.old.disks site.new.disks }
     ensures log_formatted { reads_script (command_of (map string_bytes words.now)) ≡ false
         → (D.ledger site.new.disks.log).written ≤ (D.ledger site.old.disks.log).written + 77826 }
-    ensures log_written { IsTrue D.tells → IsTrue S.tells → reads_script (command_of (map string_bytes words.now)) ≡ true
+    ensures log_written { IsTrue D.is_modelled → IsTrue S.is_modelled → reads_script (command_of (map string_bytes words.now)) ≡ true
         → (world : World) → IsOpenable world → StandFor (contents_of D.bytes site.old.disks) world
         → (D.ledger site.new.disks.log).written + 4097 * era.old.number ≤ (D.ledger site.old.disks.log).written + 4097 * era.new.number }
     ensures others { site.new.disks ≡ record site.old.disks { cat = site.new.disks.cat; log = site.new.disks.log } }

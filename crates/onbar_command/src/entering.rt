@@ -24,8 +24,8 @@ fn sync_both<D: Disk>(cat: &mut D, log: &mut D, era: &Era) -> Result<(), DiskNam
 
     ensures cat_none { (f : ℕ) (c : List ℕ) → D.image cat.new f c → D.image cat.old f c }
     ensures log_none { (f : ℕ) (c : List ℕ) → D.image log.new f c → D.image log.old f c }
-    ensures cat_only { IsTrue D.tells → OnOk result (OnlyAfter era.now.number (D.bytes cat.old) (D.image cat.new)) }
-    ensures log_only { IsTrue D.tells → OnOk result (OnlyAfter era.now.number (D.bytes log.old) (D.image log.new)) }
+    ensures cat_only { IsTrue D.is_modelled → OnOk result (OnlyAfter era.now.number (D.bytes cat.old) (D.image cat.new)) }
+    ensures log_only { IsTrue D.is_modelled → OnOk result (OnlyAfter era.now.number (D.bytes log.old) (D.image log.new)) }
     ensures cat_bytes { OnOk result (D.bytes cat.new ≡ D.bytes cat.old) }
     ensures log_bytes { OnOk result (D.bytes log.new ≡ D.bytes log.old) }
 
@@ -34,7 +34,7 @@ fn sync_both<D: Disk>(cat: &mut D, log: &mut D, era: &Era) -> Result<(), DiskNam
         → (log.new ≡ log.old) × ((D.ledger cat.new).synced ≡ (D.ledger cat.old).synced) × Rose (D.ledger cat.old).faults (D.ledger cat.new).faults }
     ensures log_failed { IsErrOf result DiskName.Log
         → ((D.ledger log.new).synced ≡ (D.ledger log.old).synced) × Rose (D.ledger log.old).faults (D.ledger log.new).faults }
-    ensures before_log { IsTrue D.tells → IsErrOf result DiskName.Log → OnlyAfter era.now.number (D.bytes cat.old) (D.image cat.new) }
+    ensures before_log { IsTrue D.is_modelled → IsErrOf result DiskName.Log → OnlyAfter era.now.number (D.bytes cat.old) (D.image cat.new) }
 
     ensures cat_bytes_moved { ((D.ledger cat.new).read ≡ (D.ledger cat.old).read) × ((D.ledger cat.new).written ≡ (D.ledger cat.old).written) }
     ensures log_bytes_moved { ((D.ledger log.new).read ≡ (D.ledger log.old).read) × ((D.ledger log.new).written ≡ (D.ledger log.old).written) }
@@ -65,17 +65,17 @@ pub fn find_head<D: Disk>(
     requires number { era.old.number ≤ 2 ^ 63 }
 
     ensures head { IfOk result (λ found. IfSome found (λ head. IsHead (head_of head))) }
-    ensures found { IsTrue D.tells → IfOk result (λ found. MatchOption found (HasNoCatalogue (D.bytes site.old.disks.cat))
+    ensures found { IsTrue D.is_modelled → IfOk result (λ found. MatchOption found (HasNoCatalogue (D.bytes site.old.disks.cat))
         (λ head. HasHeader (catalogue_tail (head_of head)) (D.bytes site.old.disks.cat))) }
 
     ensures cat_none { (f : ℕ) (c : List ℕ) → D.image site.new.disks.cat f c → D.image site.old.disks.cat f c }
     ensures log_none { (f : ℕ) (c : List ℕ) → D.image site.new.disks.log f c → D.image site.old.disks.log f c }
-    ensures cat_only { IsTrue D.tells → OnOk result (OnlyAfter (era.old.number + 1) (D.bytes site.old.disks.cat) (D.image site.new.disks.cat)) }
-    ensures log_only { IsTrue D.tells → OnOk result (OnlyAfter (era.old.number + 1) (D.bytes site.old.disks.log) (D.image site.new.disks.log)) }
+    ensures cat_only { IsTrue D.is_modelled → OnOk result (OnlyAfter (era.old.number + 1) (D.bytes site.old.disks.cat) (D.image site.new.disks.cat)) }
+    ensures log_only { IsTrue D.is_modelled → OnOk result (OnlyAfter (era.old.number + 1) (D.bytes site.old.disks.log) (D.image site.new.disks.log)) }
     // Also where it fails, a disk was synced or left alone.
-    ensures cat_shows { IsTrue D.tells → (f : ℕ) (c : List ℕ) → era.old.number + 1 < f → D.image site.new.disks.cat f c
+    ensures cat_shows { IsTrue D.is_modelled → (f : ℕ) (c : List ℕ) → era.old.number + 1 < f → D.image site.new.disks.cat f c
         → (c ≡ D.bytes site.old.disks.cat) ⊎ ((D.ledger site.new.disks.cat).synced ≡ (D.ledger site.old.disks.cat).synced) }
-    ensures log_shows { IsTrue D.tells → (f : ℕ) (c : List ℕ) → era.old.number + 1 < f → D.image site.new.disks.log f c
+    ensures log_shows { IsTrue D.is_modelled → (f : ℕ) (c : List ℕ) → era.old.number + 1 < f → D.image site.new.disks.log f c
         → (c ≡ D.bytes site.old.disks.log) ⊎ ((D.ledger site.new.disks.log).synced ≡ (D.ledger site.old.disks.log).synced) }
     ensures cat_bytes { OnOk result (D.bytes site.new.disks.cat ≡ D.bytes site.old.disks.cat) }
     ensures log_bytes { OnOk result (D.bytes site.new.disks.log ≡ D.bytes site.old.disks.log) }

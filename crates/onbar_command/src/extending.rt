@@ -1,19 +1,20 @@
 // A script of transactions extends the log of a formatted site.
 ghost use Rattle.std.specs.Prelude.{◌≡◌, ◌+◌, ◌*◌, ◌<◌, ◌≤◌, ◌^◌, ◌++◌, [], ℕ, List, length, IsTrue, ◌⊎◌, IfOk, OnOk, IsErrOf, IfErr};
 ghost use Rattle.log_history.specs.History.{History};
-ghost use Rattle.onbar_words.specs.Cutting.{TakesFront};
+ghost use Rattle.script_lines.specs.Cutting.{TakesFront};
 ghost use Rattle.site_disk.specs.Causes.{Rose};
 ghost use Rattle.site_disk.specs.Ledger.{MayUse};
 ghost use Rattle.site_headers.specs.Heads.{IsHead};
 ghost use Rattle.site_headers.specs.Views.{head_of};
 ghost use Rattle.site_model.specs.declared.disk_name.DiskName.{DiskName};
+ghost use Rattle.site_model.specs.declared.status.Status.{Status};
 ghost use Rattle.site_model.specs.Commands.{CutsShort};
 ghost use Rattle.site_model.specs.Layouts.{HoldsLog};
-ghost use Rattle.site_model.specs.Openings.{CanOpen, LogRefuses};
-ghost use Rattle.site_model.specs.Runs.{first_place};
+ghost use Rattle.site_model.specs.Openings.{CanOpen, IsOfDisks, LogRefuses};
+ghost use Rattle.site_model.specs.Runs.{first_state};
 ghost use Rattle.site_model.specs.Worlds.{Site};
 ghost use Rattle.onbar_command.specs.Extending.{log_status, report_of, ExtendsTo, IsUncut};
-ghost use Rattle.onbar_command.specs.Disks.{IsKept};
+ghost use Rattle.onbar_command.specs.Disks.{IsKept, IsUnwritten};
 ghost use Rattle.onbar_command.specs.Scripts.{run_text};
 
 use crate::collecting::Collected;
@@ -22,7 +23,7 @@ use crate::replay::LogState;
 use crate::running::run_script;
 use crate::script::Progress;
 use crate::transactions::{Counts, Stop, Work};
-use onbar_words::Lines;
+use script_lines::Lines;
 use site_disk::{Disk, Era, Source};
 use site_headers::SiteHead;
 use site_model::{DiskName, LogFull, Status};
@@ -38,7 +39,8 @@ pub struct Extended {
 
 /// How a command ends whose log can't be opened.
 pub fn log_status(fault: OpenFault) -> Status
-    ensures { result ≡ log_status fault }
+    ensures told { result ≡ log_status fault }
+    ensures answered { CutsShort result ⊎ IsOfDisks result }
 {
     match fault {
         OpenFault::LogLost => Status::LogLost,
@@ -80,6 +82,8 @@ fn begin_work(alloc: Global, opened: OpenLog) -> Work
 /// What a run comes to that stopped so.
 fn report(stop: Stop, work: &Work) -> Result<Extended, Status>
     ensures told { result ≡ report_of stop work.now }
+    ensures at_end { IfOk result (λ told. told.status ≡ Status.Ok → stop ≡ Stop.End) }
+    ensures cut { IfErr result CutsShort }
     ensures no_stop { IfOk result IsUncut }
 {
     let end = work.slots.used() as u64;
@@ -117,16 +121,22 @@ pub fn extend_log<D: Disk, S: Source>(
     requires moment { moment ≤ 2 ^ 48 }
 
     // Any log but a refused one is extended; a log is refused for its bytes, and then nothing is written.
-    ensures opens { IsTrue D.tells → OnOk result ((history : History) × CanOpen history × HoldsLog (record { head = head_of head.now; history = history }) (D.bytes log.old)) }
-    ensures refused { IsTrue D.tells → IfErr result (λ status. CutsShort status ⊎ LogRefuses head.now.site (D.bytes log.old) status) }
+    ensures opens { IsTrue D.is_modelled → OnOk result ((history : History) × CanOpen history × HoldsLog (record { head = head_of head.now; history = history }) (D.bytes log.old)) }
+    ensures refused { IsTrue D.is_modelled → IfErr result (λ status. CutsShort status ⊎ LogRefuses head.now.site (D.bytes log.old) status) }
     ensures kept { IfErr result (λ status. CutsShort status
         ⊎ IsKept (D.ledger log.old) (D.ledger log.new) (D.bytes log.old) (D.bytes log.new) (D.image log.old) (D.image log.new)) }
 
-    ensures extended { IsTrue D.tells → IsTrue S.tells → (site : Site) → site.head ≡ head_of head.now → CanOpen site.history → HoldsLog site (D.bytes log.old)
+    // A log that is refused is left alone whatever the answer, and nothing of the script is read.
+    ensures harmless { IsTrue D.is_modelled → (status : Status) → LogRefuses head.now.site (D.bytes log.old) status
+        → IsUnwritten (D.ledger log.old) (D.ledger log.new) (D.image log.old) (D.image log.new) × (source.new ≡ source.old) }
+
+    ensures extended { IsTrue D.is_modelled → IsTrue S.is_modelled → (site : Site) → site.head ≡ head_of head.now → CanOpen site.history → HoldsLog site (D.bytes log.old)
         → ((f : ℕ) (c : List ℕ) → era.old.number < f → D.image log.old f c → HoldsLog site c)
-        → ExtendsTo site (run_text site.head.spaces moment (S.left source.old) (first_place site.history)) (S.left source.new)
+        → ExtendsTo site (run_text site.head.spaces moment (S.left source.old) (first_state site.history)) (S.left source.new)
         era.old.number era.new.number (D.bytes log.new) (D.image log.old) (D.image log.new) result }
 
+    ensures answered { IfErr result (λ status. CutsShort status ⊎ IsOfDisks status) }
+    ensures to_end { IsTrue S.is_modelled → IfOk result (λ told. told.status ≡ Status.Ok → S.left source.new ≡ []) }
     ensures no_stop { IfOk result IsUncut }
     ensures era { era.new.number ≤ era.old.number + 16777218 }
     ensures era_later { era.old.number ≤ era.new.number }
@@ -134,9 +144,9 @@ pub fn extend_log<D: Disk, S: Source>(
     ensures may { MayUse era.new (D.ledger log.new) }
     ensures later { (D.ledger log.old).faults ≤ (D.ledger log.new).faults }
     ensures read { (D.ledger log.new).read ≤ (D.ledger log.old).read + 8458240 }
-    ensures written { IsTrue D.tells → IsTrue S.tells → (site : Site) → site.head ≡ head_of head.now → CanOpen site.history → HoldsLog site (D.bytes log.old)
+    ensures written { IsTrue D.is_modelled → IsTrue S.is_modelled → (site : Site) → site.head ≡ head_of head.now → CanOpen site.history → HoldsLog site (D.bytes log.old)
         → (D.ledger log.new).written + 4097 * era.old.number ≤ (D.ledger log.old).written + 4097 * era.new.number }
-    ensures taken { IsTrue S.tells → TakesFront (S.left source.old) (S.left source.new) }
+    ensures taken { IsTrue S.is_modelled → TakesFront (S.left source.old) (S.left source.new) }
     ensures source_later { S.faults source.old ≤ S.faults source.new }
     ensures read_fault { IsErrOf result Status.ReadFault → Rose (S.faults source.old) (S.faults source.new) }
     ensures no_write_fault { IsErrOf result Status.WriteFault → ⊥ }

@@ -1,23 +1,24 @@
 // The forms of a command over the disks of a site.
-ghost use Rattle.std.specs.Prelude.{◌≡◌, ◌⊎◌, ◌+◌, ◌*◌, ◌-◌, ◌<◌, ◌≤◌, ◌^◌, ℕ, List, Bool, true, false, Ok, Err, length, map, string_bytes, IsTrue, OnOk, IfOk, IfErr, IsErrOf};
-ghost use Rattle.onbar_grammar.specs.Words.{init_form, transactions_form, show_form, command_of};
-ghost use Rattle.onbar_words.specs.Cutting.{TakesFront};
+ghost use Rattle.std.specs.Prelude.{◌≡◌, ◌⊎◌, ◌+◌, ◌*◌, ◌-◌, ◌<◌, ◌≤◌, ◌^◌, ℕ, List, [], Bool, true, false, Ok, Err, length, map, string_bytes, IsTrue, OnOk, IfOk, IfErr, IsErrOf};
+ghost use Rattle.onbar_grammar.specs.Words.{Command, init_form, transactions_form, show_form, command_of};
+ghost use Rattle.script_lines.specs.Cutting.{TakesFront};
 ghost use Rattle.onbar_words.specs.Order.{form_in, FitsASite};
-ghost use Rattle.onbar_words.specs.SpaceHead.{spaces_of};
+ghost use Rattle.site_headers.specs.Views.{spaces_of};
 ghost use Rattle.site_disk.specs.Causes.{Rose};
 ghost use Rattle.site_disk.specs.Ledger.{MayUse};
 ghost use Rattle.site_headers.specs.Heads.{IsHead};
 ghost use Rattle.site_model.specs.declared.disk_name.DiskName.{DiskName};
 ghost use Rattle.site_model.specs.declared.disk_name.DiskName.TheVariants.{Cat};
-ghost use Rattle.site_model.specs.Commands.{CutsShort, IsPassed, IsSound, frame_of};
+ghost use Rattle.site_model.specs.declared.status.Status.{Status};
+ghost use Rattle.site_model.specs.Commands.{CutsShort, ImagesWithin, IsPassed, IsSound, MayChange, frame_of};
 ghost use Rattle.site_model.specs.Layouts.{HasNoCatalogue, StandFor};
-ghost use Rattle.site_model.specs.Openings.{DisksRefuse, IsOpenable, IsOpenFor, IsRefused, IsUsage, OpensFor};
+ghost use Rattle.site_model.specs.Openings.{DisksRefuse, IsOfDisks, IsOpenable, IsOpenFor, IsRefused, IsUsage, OpensFor};
 ghost use Rattle.site_model.specs.Runs.{head_at, is_transactions, reads_script, run, run_form};
 ghost use Rattle.site_model.specs.Steps.{Passes};
 ghost use Rattle.site_model.specs.Stops.{KeepsPromise};
 ghost use Rattle.site_model.specs.Worlds.{World};
-ghost use Rattle.onbar_command.specs.Disks.{contents_of, images_of, faults_of, written_of, scene_of, AreKept, Rests, MayUseAll};
-ghost use Rattle.onbar_command.specs.Forms.{is_show, shows_pages, Finishes, IsNoStop, IsTellable};
+ghost use Rattle.onbar_command.specs.Disks.{contents_of, images_of, faults_of, scene_of, AreKept, AreUnwritten, NotSynced, MayUseAll};
+ghost use Rattle.onbar_command.specs.Forms.{is_show, shows_pages, status_told, Finishes, IsNoStop, IsTellable};
 
 use crate::entering::find_head;
 use crate::extending::extend_log;
@@ -26,9 +27,9 @@ use crate::report::Report;
 use crate::showing::show_log;
 use crate::site::Site;
 use bsa_descriptor::Text;
-use onbar_words::{Form, SpaceHead, WordFault, read_words};
+use onbar_words::{Form, WordFault, read_words};
 use site_disk::{Disk, Era, Source};
-use site_headers::SiteHead;
+use site_headers::{SiteHead, SpaceHead};
 use site_model::Status;
 use std::alloc::Global;
 
@@ -45,17 +46,27 @@ fn run_transactions<D: Disk, S: Source>(
     requires number { era.old.number ≤ 2 ^ 63 }
     requires moment { moment ≤ 2 ^ 48 }
 
-    ensures refused { IsTrue D.tells → IfErr result (λ status. CutsShort status ⊎ DisksRefuse transactions_form (contents_of D.bytes site.old.disks) status) }
-    ensures opens { IsTrue D.tells → OnOk result (IsOpenFor transactions_form (contents_of D.bytes site.old.disks)) }
+    ensures refused { IsTrue D.is_modelled → IfErr result (λ status. CutsShort status ⊎ DisksRefuse transactions_form (contents_of D.bytes site.old.disks) status) }
+    ensures opens { IsTrue D.is_modelled → OnOk result (IsOpenFor transactions_form (contents_of D.bytes site.old.disks)) }
     ensures kept { IfErr result (λ status. CutsShort status ⊎ AreKept D.bytes D.image D.ledger site.old.disks site.new.disks) }
 
-    ensures passes { IsTrue D.tells → IsTrue S.tells → (world : World) → IsOpenable world → StandFor (contents_of D.bytes site.old.disks) world
-        → Passes (frame_of era.old.number (images_of D.image site.old.disks) (Rests D.ledger site.old.disks site.new.disks)
-        (IsPassed world (run_form moment world (S.left source.old) transactions_form))) (images_of D.image site.new.disks) }
-    ensures finishes { IsTrue D.tells → IsTrue S.tells → (world : World) → IsOpenable world → StandFor (contents_of D.bytes site.old.disks) world
-        → Finishes true (run_form moment world (S.left source.old) transactions_form) (S.left source.new) (contents_of D.bytes site.new.disks) (era.new.number + 1)
-        (frame_of era.old.number (images_of D.image site.old.disks) (Rests D.ledger site.old.disks site.new.disks)) (images_of D.image site.new.disks) result }
+    // Where its disks refuse it, it leaves them alone however it ends, and reads nothing of the script.
+    ensures harmless { IsTrue D.is_modelled → (status : Status) → DisksRefuse transactions_form (contents_of D.bytes site.old.disks) status
+        → AreUnwritten D.image D.ledger site.old.disks site.new.disks × (source.new ≡ source.old) }
+    // The catalogue is as it was, and the log apart from its gates and slots.
+    ensures images_within { IsTrue D.is_modelled → IsTrue S.is_modelled → (world : World) → IsOpenable world → StandFor (contents_of D.bytes site.old.disks) world
+        → ImagesWithin transactions_form (contents_of D.bytes site.old.disks) (images_of D.image site.old.disks) (images_of D.image site.new.disks) }
+    ensures reads_within { IsTrue D.is_modelled → IsTrue S.is_modelled → (world : World) → IsOpenable world → StandFor (contents_of D.bytes site.old.disks) world
+        → OnOk result ((name : DiskName) → MayChange transactions_form name (contents_of D.bytes site.old.disks name) (contents_of D.bytes site.new.disks name)) }
 
+    ensures passes { IsTrue D.is_modelled → IsTrue S.is_modelled → (world : World) → IsOpenable world → StandFor (contents_of D.bytes site.old.disks) world
+        → Passes (frame_of era.old.number (images_of D.image site.old.disks) (NotSynced D.ledger site.old.disks site.new.disks)
+        (IsPassed world (run_form moment world (S.left source.old) transactions_form))) (images_of D.image site.new.disks) }
+    ensures finishes { IsTrue D.is_modelled → IsTrue S.is_modelled → (world : World) → IsOpenable world → StandFor (contents_of D.bytes site.old.disks) world
+        → Finishes true (run_form moment world (S.left source.old) transactions_form) (S.left source.new) (contents_of D.bytes site.new.disks) (era.new.number + 1)
+        (frame_of era.old.number (images_of D.image site.old.disks) (NotSynced D.ledger site.old.disks site.new.disks)) (images_of D.image site.new.disks) result }
+
+    ensures answered { IfErr result (λ status. CutsShort status ⊎ IsOfDisks status) }
     ensures no_stop { IfOk result IsNoStop }
     ensures tellable { IfOk result IsTellable }
     ensures era { era.new.number ≤ era.old.number + 16777220 }
@@ -67,9 +78,10 @@ fn run_transactions<D: Disk, S: Source>(
     ensures cat_read { (D.ledger site.new.disks.cat).read ≤ (D.ledger site.old.disks.cat).read + 4096 }
     ensures cat_written { (D.ledger site.new.disks.cat).written ≤ (D.ledger site.old.disks.cat).written }
     ensures log_read { (D.ledger site.new.disks.log).read ≤ (D.ledger site.old.disks.log).read + 8458240 }
-    ensures log_written { IsTrue D.tells → IsTrue S.tells → (world : World) → IsOpenable world → StandFor (contents_of D.bytes site.old.disks) world
+    ensures log_written { IsTrue D.is_modelled → IsTrue S.is_modelled → (world : World) → IsOpenable world → StandFor (contents_of D.bytes site.old.disks) world
         → (D.ledger site.new.disks.log).written + 4097 * era.old.number ≤ (D.ledger site.old.disks.log).written + 4097 * era.new.number }
-    ensures taken { IsTrue S.tells → TakesFront (S.left source.old) (S.left source.new) }
+    ensures to_end { IsTrue S.is_modelled → IfOk result (λ report. status_told (Ok report) ≡ Status.Ok → S.left source.new ≡ []) }
+    ensures taken { IsTrue S.is_modelled → TakesFront (S.left source.old) (S.left source.new) }
     ensures source_later { S.faults source.old ≤ S.faults source.new }
     ensures read_fault { IsErrOf result Status.ReadFault → Rose (S.faults source.old) (S.faults source.new) }
     ensures no_write_fault { IsErrOf result Status.WriteFault → ⊥ }
@@ -99,18 +111,23 @@ fn run_init<D: Disk>(
     requires number { era.old.number ≤ 2 ^ 63 }
     requires head { IsHead (head_at moment blocks (spaces_of spaces.items)) }
 
-    ensures refused { IsTrue D.tells → IfErr result (λ status. CutsShort status
+    ensures refused { IsTrue D.is_modelled → IfErr result (λ status. CutsShort status
         ⊎ DisksRefuse (init_form blocks (spaces_of spaces.items)) (contents_of D.bytes site.old.disks) status) }
-    ensures opens { IsTrue D.tells → OnOk result (IsOpenFor (init_form blocks (spaces_of spaces.items)) (contents_of D.bytes site.old.disks)) }
+    ensures opens { IsTrue D.is_modelled → OnOk result (IsOpenFor (init_form blocks (spaces_of spaces.items)) (contents_of D.bytes site.old.disks)) }
     ensures kept { IfErr result (λ status. CutsShort status ⊎ AreKept D.bytes D.image D.ledger site.old.disks site.new.disks) }
 
-    ensures passes { IsTrue D.tells → (world : World) → IsOpenable world → StandFor (contents_of D.bytes site.old.disks) world → (script : List ℕ)
-        → Passes (frame_of era.old.number (images_of D.image site.old.disks) (Rests D.ledger site.old.disks site.new.disks)
-        (IsPassed world (run_form moment world script (init_form blocks (spaces_of spaces.items))))) (images_of D.image site.new.disks) }
-    ensures finishes { IsTrue D.tells → (world : World) → IsOpenable world → StandFor (contents_of D.bytes site.old.disks) world → (script after : List ℕ)
-        → Finishes false (run_form moment world script (init_form blocks (spaces_of spaces.items))) after (contents_of D.bytes site.new.disks) (era.new.number + 1)
-        (frame_of era.old.number (images_of D.image site.old.disks) (Rests D.ledger site.old.disks site.new.disks)) (images_of D.image site.new.disks) result }
+    // Where its disks refuse it, it leaves them alone however it ends.
+    ensures harmless { IsTrue D.is_modelled → (status : Status) → DisksRefuse (init_form blocks (spaces_of spaces.items)) (contents_of D.bytes site.old.disks) status
+        → AreUnwritten D.image D.ledger site.old.disks site.new.disks }
 
+    ensures passes { IsTrue D.is_modelled → (world : World) → IsOpenable world → StandFor (contents_of D.bytes site.old.disks) world → (script : List ℕ)
+        → Passes (frame_of era.old.number (images_of D.image site.old.disks) (NotSynced D.ledger site.old.disks site.new.disks)
+        (IsPassed world (run_form moment world script (init_form blocks (spaces_of spaces.items))))) (images_of D.image site.new.disks) }
+    ensures finishes { IsTrue D.is_modelled → (world : World) → IsOpenable world → StandFor (contents_of D.bytes site.old.disks) world → (script after : List ℕ)
+        → Finishes false (run_form moment world script (init_form blocks (spaces_of spaces.items))) after (contents_of D.bytes site.new.disks) (era.new.number + 1)
+        (frame_of era.old.number (images_of D.image site.old.disks) (NotSynced D.ledger site.old.disks site.new.disks)) (images_of D.image site.new.disks) result }
+
+    ensures answered { IfErr result (λ status. CutsShort status ⊎ IsOfDisks status) }
     ensures no_stop { IfOk result IsNoStop }
     ensures tellable { IfOk result IsTellable }
     ensures era { era.new.number ≤ era.old.number + 3 }
@@ -157,17 +174,21 @@ fn run_show<D: Disk>(
     requires log { MayUse era.old (D.ledger site.old.disks.log) }
     requires number { era.old.number ≤ 2 ^ 63 }
 
-    ensures refused { IsTrue D.tells → IfErr result (λ status. CutsShort status ⊎ DisksRefuse (show_form space page) (contents_of D.bytes site.old.disks) status) }
-    ensures opens { IsTrue D.tells → OnOk result (IsOpenFor (show_form space page) (contents_of D.bytes site.old.disks)) }
+    ensures refused { IsTrue D.is_modelled → IfErr result (λ status. CutsShort status ⊎ DisksRefuse (show_form space page) (contents_of D.bytes site.old.disks) status) }
+    ensures opens { IsTrue D.is_modelled → OnOk result (IsOpenFor (show_form space page) (contents_of D.bytes site.old.disks)) }
     ensures kept { IfErr result (λ status. CutsShort status ⊎ AreKept D.bytes D.image D.ledger site.old.disks site.new.disks) }
 
-    ensures passes { IsTrue D.tells → (world : World) → IsOpenable world → StandFor (contents_of D.bytes site.old.disks) world → (moment : ℕ) (script : List ℕ)
-        → Passes (frame_of era.old.number (images_of D.image site.old.disks) (Rests D.ledger site.old.disks site.new.disks)
-        (IsPassed world (run_form moment world script (show_form space page)))) (images_of D.image site.new.disks) }
-    ensures finishes { IsTrue D.tells → (world : World) → IsOpenable world → StandFor (contents_of D.bytes site.old.disks) world → (moment : ℕ) (script after : List ℕ)
-        → Finishes false (run_form moment world script (show_form space page)) after (contents_of D.bytes site.new.disks) (era.new.number + 1)
-        (frame_of era.old.number (images_of D.image site.old.disks) (Rests D.ledger site.old.disks site.new.disks)) (images_of D.image site.new.disks) result }
+    ensures unwritten { AreUnwritten D.image D.ledger site.old.disks site.new.disks }
+    ensures reads { OnOk result ((name : DiskName) → contents_of D.bytes site.new.disks name ≡ contents_of D.bytes site.old.disks name) }
 
+    ensures passes { IsTrue D.is_modelled → (world : World) → IsOpenable world → StandFor (contents_of D.bytes site.old.disks) world → (moment : ℕ) (script : List ℕ)
+        → Passes (frame_of era.old.number (images_of D.image site.old.disks) (NotSynced D.ledger site.old.disks site.new.disks)
+        (IsPassed world (run_form moment world script (show_form space page)))) (images_of D.image site.new.disks) }
+    ensures finishes { IsTrue D.is_modelled → (world : World) → IsOpenable world → StandFor (contents_of D.bytes site.old.disks) world → (moment : ℕ) (script after : List ℕ)
+        → Finishes false (run_form moment world script (show_form space page)) after (contents_of D.bytes site.new.disks) (era.new.number + 1)
+        (frame_of era.old.number (images_of D.image site.old.disks) (NotSynced D.ledger site.old.disks site.new.disks)) (images_of D.image site.new.disks) result }
+
+    ensures answered { IfErr result (λ status. CutsShort status ⊎ IsOfDisks status) }
     ensures no_stop { IfOk result IsNoStop }
     ensures tellable { IfOk result IsTellable }
     ensures era { era.new.number ≤ era.old.number + 2 }
@@ -208,17 +229,25 @@ fn run_form<D: Disk, S: Source>(
     requires moment { moment ≤ 2 ^ 48 }
     requires fits { FitsASite form }
 
-    ensures refused { IsTrue D.tells → IfErr result (λ status. CutsShort status ⊎ DisksRefuse (form_in form) (contents_of D.bytes site.old.disks) status) }
-    ensures opens { IsTrue D.tells → OnOk result (IsOpenFor (form_in form) (contents_of D.bytes site.old.disks)) }
+    ensures refused { IsTrue D.is_modelled → IfErr result (λ status. CutsShort status ⊎ DisksRefuse (form_in form) (contents_of D.bytes site.old.disks) status) }
+    ensures opens { IsTrue D.is_modelled → OnOk result (IsOpenFor (form_in form) (contents_of D.bytes site.old.disks)) }
     ensures kept { IfErr result (λ status. CutsShort status ⊎ AreKept D.bytes D.image D.ledger site.old.disks site.new.disks) }
 
-    ensures passes { IsTrue D.tells → IsTrue S.tells → (world : World) → IsOpenable world → StandFor (contents_of D.bytes site.old.disks) world
-        → Passes (frame_of era.old.number (images_of D.image site.old.disks) (Rests D.ledger site.old.disks site.new.disks)
-        (IsPassed world (run_form moment world (S.left source.old) (form_in form)))) (images_of D.image site.new.disks) }
-    ensures finishes { IsTrue D.tells → IsTrue S.tells → (world : World) → IsOpenable world → StandFor (contents_of D.bytes site.old.disks) world
-        → Finishes (is_transactions (form_in form)) (run_form moment world (S.left source.old) (form_in form)) (S.left source.new) (contents_of D.bytes site.new.disks) (era.new.number + 1)
-        (frame_of era.old.number (images_of D.image site.old.disks) (Rests D.ledger site.old.disks site.new.disks)) (images_of D.image site.new.disks) result }
+    ensures harmless { IsTrue D.is_modelled → (status : Status) → DisksRefuse (form_in form) (contents_of D.bytes site.old.disks) status
+        → AreUnwritten D.image D.ledger site.old.disks site.new.disks × (source.new ≡ source.old) }
+    ensures images_within { IsTrue D.is_modelled → (is_transactions (form_in form) ≡ true → IsTrue S.is_modelled) → (world : World) → IsOpenable world → StandFor (contents_of D.bytes site.old.disks) world
+        → ImagesWithin (form_in form) (contents_of D.bytes site.old.disks) (images_of D.image site.old.disks) (images_of D.image site.new.disks) }
+    ensures reads_within { IsTrue D.is_modelled → (is_transactions (form_in form) ≡ true → IsTrue S.is_modelled) → (world : World) → IsOpenable world → StandFor (contents_of D.bytes site.old.disks) world
+        → OnOk result ((name : DiskName) → MayChange (form_in form) name (contents_of D.bytes site.old.disks name) (contents_of D.bytes site.new.disks name)) }
 
+    ensures passes { IsTrue D.is_modelled → (is_transactions (form_in form) ≡ true → IsTrue S.is_modelled) → (world : World) → IsOpenable world → StandFor (contents_of D.bytes site.old.disks) world
+        → Passes (frame_of era.old.number (images_of D.image site.old.disks) (NotSynced D.ledger site.old.disks site.new.disks)
+        (IsPassed world (run_form moment world (S.left source.old) (form_in form)))) (images_of D.image site.new.disks) }
+    ensures finishes { IsTrue D.is_modelled → (is_transactions (form_in form) ≡ true → IsTrue S.is_modelled) → (world : World) → IsOpenable world → StandFor (contents_of D.bytes site.old.disks) world
+        → Finishes (is_transactions (form_in form)) (run_form moment world (S.left source.old) (form_in form)) (S.left source.new) (contents_of D.bytes site.new.disks) (era.new.number + 1)
+        (frame_of era.old.number (images_of D.image site.old.disks) (NotSynced D.ledger site.old.disks site.new.disks)) (images_of D.image site.new.disks) result }
+
+    ensures answered { IfErr result (λ status. CutsShort status ⊎ IsOfDisks status) }
     ensures no_stop { IfOk result IsNoStop }
     ensures tellable { IfOk result IsTellable }
     ensures era { era.new.number ≤ era.old.number + 16777220 }
@@ -231,13 +260,14 @@ fn run_form<D: Disk, S: Source>(
     ensures cat_unwritten { is_transactions (form_in form) ≡ true → (D.ledger site.new.disks.cat).written ≤ (D.ledger site.old.disks.cat).written }
     ensures log_read { (D.ledger site.new.disks.log).read ≤ (D.ledger site.old.disks.log).read + 16916480 }
     ensures log_read_once { is_show (form_in form) ≡ false → (D.ledger site.new.disks.log).read ≤ (D.ledger site.old.disks.log).read + 8458240 }
-    ensures shows_unwritten { is_show (form_in form) ≡ true → (name : DiskName) → written_of D.ledger site.new.disks name ≤ written_of D.ledger site.old.disks name }
+    ensures shows_unwritten { is_show (form_in form) ≡ true → AreUnwritten D.image D.ledger site.old.disks site.new.disks }
     ensures log_formatted { is_transactions (form_in form) ≡ false → (D.ledger site.new.disks.log).written ≤ (D.ledger site.old.disks.log).written + 77826 }
-    ensures log_written { IsTrue D.tells → IsTrue S.tells → is_transactions (form_in form) ≡ true
+    ensures log_written { IsTrue D.is_modelled → IsTrue S.is_modelled → is_transactions (form_in form) ≡ true
         → (world : World) → IsOpenable world → StandFor (contents_of D.bytes site.old.disks) world
         → (D.ledger site.new.disks.log).written + 4097 * era.old.number ≤ (D.ledger site.old.disks.log).written + 4097 * era.new.number }
     ensures unread { is_transactions (form_in form) ≡ false → source.new ≡ source.old }
-    ensures taken { IsTrue S.tells → TakesFront (S.left source.old) (S.left source.new) }
+    ensures to_end { IsTrue S.is_modelled → is_transactions (form_in form) ≡ true → IfOk result (λ report. status_told (Ok report) ≡ Status.Ok → S.left source.new ≡ []) }
+    ensures taken { IsTrue S.is_modelled → TakesFront (S.left source.old) (S.left source.new) }
     ensures source_later { S.faults source.old ≤ S.faults source.new }
     ensures read_fault { IsErrOf result Status.ReadFault → Rose (S.faults source.old) (S.faults source.new) }
     ensures no_write_fault { IsErrOf result Status.WriteFault → ⊥ }
@@ -267,21 +297,31 @@ pub fn run_words<D: Disk, S: Source>(
 
     ensures usage { (n : ℕ) → command_of (map string_bytes words.now) ≡ Err n
         → ((IsErrOf result (Status.Usage n)) ⊎ (IsErrOf result Status.OutOfMemory)) × (site.new ≡ site.old) × (source.new ≡ source.old) }
-    ensures refused { IsTrue D.tells → IfErr result (λ status. CutsShort status
+    ensures refused { IsTrue D.is_modelled → IfErr result (λ status. CutsShort status
         ⊎ (IsUsage (map string_bytes words.now) status ⊎ IsRefused (map string_bytes words.now) (contents_of D.bytes site.old.disks) status)) }
-    ensures opens { IsTrue D.tells → OnOk result (OpensFor (map string_bytes words.now) (contents_of D.bytes site.old.disks)) }
+    ensures opens { IsTrue D.is_modelled → OnOk result (OpensFor (map string_bytes words.now) (contents_of D.bytes site.old.disks)) }
     ensures kept { IfErr result (λ status. CutsShort status ⊎ AreKept D.bytes D.image D.ledger site.old.disks site.new.disks) }
 
-    ensures passes { IsTrue D.tells → IsTrue S.tells → (world : World) → IsOpenable world → StandFor (contents_of D.bytes site.old.disks) world
-        → Passes (frame_of era.old.number (images_of D.image site.old.disks) (Rests D.ledger site.old.disks site.new.disks)
+    ensures harmless { IsTrue D.is_modelled → (status : Status) → IsRefused (map string_bytes words.now) (contents_of D.bytes site.old.disks) status
+        → AreUnwritten D.image D.ledger site.old.disks site.new.disks × (source.new ≡ source.old) }
+    ensures images_within { IsTrue D.is_modelled → (reads_script (command_of (map string_bytes words.now)) ≡ true → IsTrue S.is_modelled) → (world : World) → IsOpenable world → StandFor (contents_of D.bytes site.old.disks) world
+        → (command : Command) → command_of (map string_bytes words.now) ≡ Ok command
+        → ImagesWithin command.form (contents_of D.bytes site.old.disks) (images_of D.image site.old.disks) (images_of D.image site.new.disks) }
+    ensures reads_within { IsTrue D.is_modelled → (reads_script (command_of (map string_bytes words.now)) ≡ true → IsTrue S.is_modelled) → (world : World) → IsOpenable world → StandFor (contents_of D.bytes site.old.disks) world
+        → (command : Command) → command_of (map string_bytes words.now) ≡ Ok command
+        → OnOk result ((name : DiskName) → MayChange command.form name (contents_of D.bytes site.old.disks name) (contents_of D.bytes site.new.disks name)) }
+
+    ensures passes { IsTrue D.is_modelled → (reads_script (command_of (map string_bytes words.now)) ≡ true → IsTrue S.is_modelled) → (world : World) → IsOpenable world → StandFor (contents_of D.bytes site.old.disks) world
+        → Passes (frame_of era.old.number (images_of D.image site.old.disks) (NotSynced D.ledger site.old.disks site.new.disks)
         (IsPassed world (run (map string_bytes words.now) moment world (S.left source.old)))) (images_of D.image site.new.disks) }
-    ensures promised { IsTrue D.tells → IsTrue S.tells → (world : World) → IsOpenable world → StandFor (contents_of D.bytes site.old.disks) world
+    ensures promised { IsTrue D.is_modelled → (reads_script (command_of (map string_bytes words.now)) ≡ true → IsTrue S.is_modelled) → (world : World) → IsOpenable world → StandFor (contents_of D.bytes site.old.disks) world
         → IsSound era.old.number (images_of D.image site.old.disks)
         → KeepsPromise (scene_of D.bytes D.image D.ledger era.old.number site.old.disks site.new.disks world (run (map string_bytes words.now) moment world (S.left source.old))) }
-    ensures finishes { IsTrue D.tells → IsTrue S.tells → (world : World) → IsOpenable world → StandFor (contents_of D.bytes site.old.disks) world
+    ensures finishes { IsTrue D.is_modelled → (reads_script (command_of (map string_bytes words.now)) ≡ true → IsTrue S.is_modelled) → (world : World) → IsOpenable world → StandFor (contents_of D.bytes site.old.disks) world
         → Finishes (reads_script (command_of (map string_bytes words.now))) (run (map string_bytes words.now) moment world (S.left source.old)) (S.left source.new) (contents_of D.bytes site.new.disks) (era.new.number + 1)
-        (frame_of era.old.number (images_of D.image site.old.disks) (Rests D.ledger site.old.disks site.new.disks)) (images_of D.image site.new.disks) result }
+        (frame_of era.old.number (images_of D.image site.old.disks) (NotSynced D.ledger site.old.disks site.new.disks)) (images_of D.image site.new.disks) result }
 
+    ensures answered { IfErr result (λ status. CutsShort status ⊎ (IsUsage (map string_bytes words.now) status ⊎ IsOfDisks status)) }
     ensures no_stop { IfOk result IsNoStop }
     ensures tellable { IfOk result IsTellable }
     ensures era { era.new.number ≤ era.old.number + 16777220 }
@@ -296,14 +336,15 @@ pub fn run_words<D: Disk, S: Source>(
     ensures log_read_once { shows_pages (command_of (map string_bytes words.now)) ≡ false
         → (D.ledger site.new.disks.log).read ≤ (D.ledger site.old.disks.log).read + 8458240 }
     ensures shows_unwritten { shows_pages (command_of (map string_bytes words.now)) ≡ true
-        → (name : DiskName) → written_of D.ledger site.new.disks name ≤ written_of D.ledger site.old.disks name }
+        → AreUnwritten D.image D.ledger site.old.disks site.new.disks }
     ensures log_formatted { reads_script (command_of (map string_bytes words.now)) ≡ false
         → (D.ledger site.new.disks.log).written ≤ (D.ledger site.old.disks.log).written + 77826 }
-    ensures log_written { IsTrue D.tells → IsTrue S.tells → reads_script (command_of (map string_bytes words.now)) ≡ true
+    ensures log_written { IsTrue D.is_modelled → IsTrue S.is_modelled → reads_script (command_of (map string_bytes words.now)) ≡ true
         → (world : World) → IsOpenable world → StandFor (contents_of D.bytes site.old.disks) world
         → (D.ledger site.new.disks.log).written + 4097 * era.old.number ≤ (D.ledger site.old.disks.log).written + 4097 * era.new.number }
     ensures unread { reads_script (command_of (map string_bytes words.now)) ≡ false → source.new ≡ source.old }
-    ensures taken { IsTrue S.tells → TakesFront (S.left source.old) (S.left source.new) }
+    ensures to_end { IsTrue S.is_modelled → reads_script (command_of (map string_bytes words.now)) ≡ true → IfOk result (λ report. status_told (Ok report) ≡ Status.Ok → S.left source.new ≡ []) }
+    ensures taken { IsTrue S.is_modelled → TakesFront (S.left source.old) (S.left source.new) }
     ensures source_later { S.faults source.old ≤ S.faults source.new }
     ensures read_fault { IsErrOf result Status.ReadFault → Rose (S.faults source.old) (S.faults source.new) }
     ensures no_write_fault { IsErrOf result Status.WriteFault → ⊥ }

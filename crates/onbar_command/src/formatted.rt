@@ -44,10 +44,10 @@ pub fn read_head<D: Disk>(
     requires { MayUse era.now (D.ledger disk.old) }
 
     ensures head { IfOk result (λ head. IsHead (head_of head)) }
-    ensures found { IsTrue D.tells → IfOk result (λ head. HasHeader (catalogue_tail (head_of head)) (D.bytes disk.old)) }
-    ensures only { IsTrue D.tells → (head : Head) → IsHead head → HasHeader (catalogue_tail head) (D.bytes disk.old)
+    ensures found { IsTrue D.is_modelled → IfOk result (λ head. HasHeader (catalogue_tail (head_of head)) (D.bytes disk.old)) }
+    ensures only { IsTrue D.is_modelled → (head : Head) → IsHead head → HasHeader (catalogue_tail head) (D.bytes disk.old)
         → IfOk result (λ found. head_of found ≡ head) }
-    ensures not_formatted { IsTrue D.tells → IsErrOf result HeadFault.NotFormatted → HasNoCatalogue (D.bytes disk.old) }
+    ensures not_formatted { IsTrue D.is_modelled → IsErrOf result HeadFault.NotFormatted → HasNoCatalogue (D.bytes disk.old) }
 
     ensures bytes { OnOk result (D.bytes disk.new ≡ D.bytes disk.old) }
     ensures refused { IsErrOf result HeadFault.NotFormatted → D.bytes disk.new ≡ D.bytes disk.old }

@@ -35,9 +35,9 @@ fn format_log<D: Disk>(
 ) -> Result<(), Failed>
     requires { MayUse era.now (D.ledger log.old) }
 
-    ensures log { IsTrue D.tells → OnOk result ((head : Head) → head.site ≡ site → HoldsLog (new_site head) (D.bytes log.new)) }
-    ensures durable { IsTrue D.tells → OnOk result (OnlyAfter era.now.number (D.bytes log.new) (D.image log.new)) }
-    ensures earlier { IsTrue D.tells → (f : ℕ) (c : List ℕ) → f < era.now.number → D.image log.new f c → D.image log.old f c }
+    ensures log { IsTrue D.is_modelled → OnOk result ((head : Head) → head.site ≡ site → HoldsLog (new_site head) (D.bytes log.new)) }
+    ensures durable { IsTrue D.is_modelled → OnOk result (OnlyAfter era.now.number (D.bytes log.new) (D.image log.new)) }
+    ensures earlier { IsTrue D.is_modelled → (f : ℕ) (c : List ℕ) → f < era.now.number → D.image log.new f c → D.image log.old f c }
 
     ensures ledger { Uses era.now 1 77826 (D.ledger log.old) (D.ledger log.new) }
     ensures cause { HasCause (D.ledger log.old).faults (D.ledger log.new).faults result }
@@ -61,10 +61,10 @@ fn format_catalogue<D: Disk>(
     requires may { MayUse era.now (D.ledger cat.old) }
     requires head { IsHead (head_of head.now) }
 
-    ensures header { IsTrue D.tells → OnOk result (HasHeader (catalogue_tail (head_of head.now)) (D.bytes cat.new)) }
-    ensures durable { IsTrue D.tells → OnOk result (OnlyAfter era.now.number (D.bytes cat.new) (D.image cat.new)) }
-    ensures earlier { IsTrue D.tells → (f : ℕ) (c : List ℕ) → f < era.now.number → D.image cat.new f c → D.image cat.old f c }
-    ensures crash { IsTrue D.tells → ((c : List ℕ) → D.image cat.old era.now.number c → HasNoCatalogue c)
+    ensures header { IsTrue D.is_modelled → OnOk result (HasHeader (catalogue_tail (head_of head.now)) (D.bytes cat.new)) }
+    ensures durable { IsTrue D.is_modelled → OnOk result (OnlyAfter era.now.number (D.bytes cat.new) (D.image cat.new)) }
+    ensures earlier { IsTrue D.is_modelled → (f : ℕ) (c : List ℕ) → f < era.now.number → D.image cat.new f c → D.image cat.old f c }
+    ensures crash { IsTrue D.is_modelled → ((c : List ℕ) → D.image cat.old era.now.number c → HasNoCatalogue c)
         → (f : ℕ) (c : List ℕ) → era.now.number ≤ f → D.image cat.new f c → MayStandFormatted (head_of head.now) c }
 
     ensures ledger { Uses era.now 1 4098 (D.ledger cat.old) (D.ledger cat.new) }
@@ -87,14 +87,14 @@ impl<D: Disk> Site<D> {
         requires log_may { MayUse era.old (D.ledger self.old.disks.log) }
         requires number { era.old.number < 2 ^ 63 + 2 ^ 62 }
 
-        ensures stands { IsTrue D.tells → OnOk result (StandFor (contents_of D.bytes self.new.disks) (formatted (new_site (head_of head.now)))) }
-        ensures durable { IsTrue D.tells → OnOk result ((f : ℕ) (name : DiskName) (bytes : List ℕ) → era.new.number < f
+        ensures stands { IsTrue D.is_modelled → OnOk result (StandFor (contents_of D.bytes self.new.disks) (formatted (new_site (head_of head.now)))) }
+        ensures durable { IsTrue D.is_modelled → OnOk result ((f : ℕ) (name : DiskName) (bytes : List ℕ) → era.new.number < f
             → images_of D.image self.new.disks f name bytes → Shows name (formatted (new_site (head_of head.now))) bytes) }
         // Where a crash at entry left no catalogue, one in the call leaves none, or the whole site.
-        ensures crash { IsTrue D.tells → ((bytes : List ℕ) → D.image self.old.disks.cat era.old.number bytes → HasNoCatalogue bytes)
+        ensures crash { IsTrue D.is_modelled → ((bytes : List ℕ) → D.image self.old.disks.cat era.old.number bytes → HasNoCatalogue bytes)
             → (f : ℕ) (choice : DiskName → List ℕ) → era.old.number ≤ f → ((name : DiskName) → images_of D.image self.new.disks f name (choice name))
             → StandFor choice unformatted ⊎ StandFor choice (formatted (new_site (head_of head.now))) }
-        ensures earlier { IsTrue D.tells → (f : ℕ) (name : DiskName) (bytes : List ℕ) → f < era.old.number
+        ensures earlier { IsTrue D.is_modelled → (f : ℕ) (name : DiskName) (bytes : List ℕ) → f < era.old.number
             → images_of D.image self.new.disks f name bytes → images_of D.image self.old.disks f name bytes }
 
         ensures failed { IfErr result (λ fault.

@@ -80,7 +80,7 @@ fn take_next_run<D: Disk>(
     ensures bounded { state.new.time ≤ 2 ^ 48 }
     ensures patches { AllByRecursion LiesWithin state.new.open }
     ensures view { IsSameViews state.old.view state.new.view }
-    ensures taken { IsTrue D.tells → place_of slots.now.area state.old.end + length run.old ≤ length (D.bytes disk.old)
+    ensures taken { IsTrue D.is_modelled → place_of slots.now.area state.old.end + length run.old ≤ length (D.bytes disk.old)
         → (past : History) → IsStateOf past state.old → AllGoBack (reverse past)
         → RunComesTo past (extent (place_of slots.now.area state.old.end) (length run.old) (D.bytes disk.old)) state.new result }
 
@@ -121,7 +121,7 @@ fn read_records<D: Disk>(
     ensures view { IfOk result (λ read. IsSameViews state.view read.view) }
     ensures end { IfOk result (λ read. read.end ≡ held) }
     ensures bounded { IfOk result (λ read. read.time ≤ 2 ^ 48) }
-    ensures records { IsTrue D.tells → 73728 + 128 * held ≤ length (D.bytes disk.old) → RecordsComeTo (D.bytes disk.old) held result }
+    ensures records { IsTrue D.is_modelled → 73728 + 128 * held ≤ length (D.bytes disk.old) → RecordsComeTo (D.bytes disk.old) held result }
 
     ensures bytes { OnOk result (D.bytes disk.new ≡ D.bytes disk.old) }
     ensures kept { IfErr result (λ fault. IsDeviceOrMemory fault ⊎ (D.bytes disk.new ≡ D.bytes disk.old)) }
@@ -145,7 +145,7 @@ fn has_log_header<D: Disk>(
     buffer: &mut [u8; 4096],
 ) -> Result<bool, Failed>
     requires { MayUse era.now (D.ledger disk.old) }
-    ensures header { IsTrue D.tells → IfOk result (λ has. IsTrue has ↔ HasHeader (log_tail site) (D.bytes disk.old)) }
+    ensures header { IsTrue D.is_modelled → IfOk result (λ has. IsTrue has ↔ HasHeader (log_tail site) (D.bytes disk.old)) }
     ensures bytes { OnOk result (D.bytes disk.new ≡ D.bytes disk.old) }
     ensures images { OnOk result (Unchanged (D.image disk.old) (D.image disk.new)) }
     ensures crash { Leaves era.now.number Same (D.image disk.old) (D.image disk.new) }
@@ -159,12 +159,12 @@ fn has_log_header<D: Disk>(
 /// The first slot that can't be: one that the disk doesn't hold whole, or that of a Begin out of order.
 fn bad_slot(state: &LogState, used: u64) -> Option<u32>
     requires { used ≤ 65536 }
-    ensures { result ≡ (if nat_lt state.now.end used then Some state.now.end else state.now.stray) }
+    ensures { result ≡ (if nat_lt state.now.end used then Some state.now.end else state.now.out_of_order) }
 {
     if state.end < used {
         Some(state.end as u32)
     } else {
-        state.stray
+        state.out_of_order
     }
 }
 
@@ -191,13 +191,13 @@ fn read_log<D: Disk>(
     ensures area { IfOk result (λ log. log.slots.area ≡ log_area) }
     ensures end { IfOk result (λ log. (log.state.end ≡ log.slots.used) × (log.slots.used ≤ 65536)) }
     ensures bounded { IfOk result (λ log. log.state.time ≤ 2 ^ 48) }
-    ensures read { IsTrue D.tells → len ≡ length (D.bytes disk.old) → IfOk result (IsReadWhole (D.bytes disk.old)) }
-    ensures bad { IsTrue D.tells → len ≡ length (D.bytes disk.old) → IfErr result (λ fault. IsDeviceOrMemory fault
+    ensures read { IsTrue D.is_modelled → len ≡ length (D.bytes disk.old) → IfOk result (IsReadWhole (D.bytes disk.old)) }
+    ensures bad { IsTrue D.is_modelled → len ≡ length (D.bytes disk.old) → IfErr result (λ fault. IsDeviceOrMemory fault
         ⊎ ((slot : ℕ) × IsBadPlace (D.bytes disk.old) slot × (fault ≡ OpenFault.BadRecord slot))) }
 
     ensures bytes { OnOk result (D.bytes disk.new ≡ D.bytes disk.old) }
     ensures kept { IfErr result (λ fault. IsDeviceOrMemory fault ⊎ (D.bytes disk.new ≡ D.bytes disk.old)) }
-    ensures only { IsTrue D.tells → OnOk result (OnlyAfter (D.ledger disk.new).last (D.bytes disk.old) (D.image disk.new)) }
+    ensures only { IsTrue D.is_modelled → OnOk result (OnlyAfter (D.ledger disk.new).last (D.bytes disk.old) (D.image disk.new)) }
     ensures crash { Leaves era.now.number Same (D.image disk.old) (D.image disk.new) }
     ensures ledger { Uses era.now (65536 + 128 * 65536) 0 (D.ledger disk.old) (D.ledger disk.new) }
     ensures failed { IsErrOf result OpenFault.Failed → Rose (D.ledger disk.old).faults (D.ledger disk.new).faults }
@@ -229,8 +229,8 @@ pub fn open_log<D: Disk>(
     ensures area { IfOk result (λ log. log.slots.area ≡ log_area) }
     ensures end { IfOk result (λ log. (log.state.end ≡ log.slots.used) × (log.slots.used ≤ 65536)) }
     ensures bounded { IfOk result (λ log. log.state.time ≤ 2 ^ 48) }
-    ensures opened { IsTrue D.tells → IfOk result (IsOpened site (D.ledger disk.new).last (D.bytes disk.new) (D.image disk.new)) }
-    ensures refused { IsTrue D.tells → IfErr result (λ fault. IsDeviceOrMemory fault ⊎ LogRefuses site (D.bytes disk.old) (log_status fault)) }
+    ensures opened { IsTrue D.is_modelled → IfOk result (IsOpened site (D.ledger disk.new).last (D.bytes disk.new) (D.image disk.new)) }
+    ensures refused { IsTrue D.is_modelled → IfErr result (λ fault. IsDeviceOrMemory fault ⊎ LogRefuses site (D.bytes disk.old) (log_status fault)) }
 
     ensures bytes { OnOk result (D.bytes disk.new ≡ D.bytes disk.old) }
     ensures kept { IfErr result (λ fault. IsDeviceOrMemory fault ⊎ (D.bytes disk.new ≡ D.bytes disk.old)) }

@@ -2,18 +2,18 @@
 ghost use Rattle.std.specs.Prelude.{◌≡◌, ◌+◌, ◌*◌, ◌/◌, ◌%◌, ◌<◌, ◌≤◌, ◌^◌, [], length, map, reverse, None, Some, ℕ, IsErrOf, OnOk, IfSome, IfNone, if◌then◌else◌};
 ghost use Rattle.std.specs.List.{AllByRecursion};
 ghost use Rattle.std.specs.Option.{option_map, option_or};
-ghost use Rattle.log_history.specs.History.{Entry, History};
+ghost use Rattle.log_history.specs.History.{LogEntry, History};
 ghost use Rattle.log_history.specs.Live.{live_by};
 ghost use Rattle.log_history.specs.Transactions.{after};
 ghost use Rattle.log_record.specs.Entry.{entry_of};
 ghost use Rattle.log_record.specs.Layout.{IsRecord, spelling};
 ghost use Rattle.space_pages.specs.Pages.{LieWithin, empty_pages, forward};
 ghost use Rattle.txn_table.specs.Table.{change_of};
-ghost use Rattle.site_model.specs.Openings.{AllGoBack, GoesBack, is_stray};
+ghost use Rattle.site_model.specs.Openings.{AllGoBack, GoesBack, is_out_of_order};
 ghost use Rattle.site_model.specs.Runs.{time_after};
-ghost use Rattle.onbar_command.specs.Replays.{IsSameView, IsSameViews, IsStateOf, LiesWithin, RunIs, turns_after, view_after, with_changes};
+ghost use Rattle.onbar_command.specs.Replays.{IsSameView, IsSameViews, IsStateOf, LiesWithin, RunIs, reset_points_after, view_after, with_changes};
 
-use live_positions::{Turn, Turns};
+use live_positions::{ResetPoint, ResetPoints};
 use log_record::Record;
 use space_pages::Pages;
 use std::alloc::Global;
@@ -24,7 +24,7 @@ use txn_table::{Change, Open, OrderFault};
 pub struct View {
     pub pages: Pages,
     /// A Commit counts where its position is live at `at`, by these Resets.
-    pub turns: Turns,
+    pub reset_points: ResetPoints,
     pub at: u64,
 }
 
@@ -36,8 +36,8 @@ pub struct LogState {
     pub time: u64,
     pub end: u64,
     /// The slot of the first Begin that the transactions open before it don't allow. From it on they aren't followed.
-    pub stray: Option<u32>,
-    pub turns: Turns,
+    pub out_of_order: Option<u32>,
+    pub reset_points: ResetPoints,
     pub view: Option<View>,
 }
 
@@ -53,7 +53,7 @@ pub enum ReplayFault {
 fn read_record(slot: &[u8; 128], before: u64) -> Option<Record>
     requires { before < 65536 }
     ensures found { IfSome result (λ r. IsRecord (entry_of r) × GoesBack before (entry_of r) × (slot.now ≡ spelling (entry_of r))) }
-    ensures none { IfNone result ((entry : Entry) → IsRecord entry → GoesBack before entry → slot.now ≡ spelling entry → ⊥) }
+    ensures none { IfNone result ((entry : LogEntry) → IsRecord entry → GoesBack before entry → slot.now ≡ spelling entry → ⊥) }
 {
     let record = Record::decode(slot)?;
     match record {
@@ -70,7 +70,7 @@ impl View {
         ensures brought { OnOk result (self.new ≡ with_changes position (map change_of changes.now) self.old) }
         ensures memory { (slot : ℕ) → IsErrOf result (ReplayFault.BadRecord slot) → ⊥ }
     {
-        if changes.is_empty() || !self.turns.is_live(self.at, position) {
+        if changes.is_empty() || !self.reset_points.is_live(self.at, position) {
             return Ok(());
         }
         match self.pages.apply(changes) {
@@ -103,8 +103,8 @@ impl LogState {
             open: Open::new(alloc),
             time: 0,
             end: 0,
-            stray: None,
-            turns: Turns::new(alloc),
+            out_of_order: None,
+            reset_points: ResetPoints::new(alloc),
             view: None,
         }
     }
@@ -127,15 +127,15 @@ impl LogState {
         requires end { self.old.end < 65536 }
         requires record { IsRecord (entry_of record.now) }
         requires patches { AllByRecursion LiesWithin self.old.open }
-        ensures kept { (self.new.end ≡ self.old.end) × (self.new.time ≡ self.old.time) × (self.new.turns ≡ self.old.turns) }
+        ensures kept { (self.new.end ≡ self.old.end) × (self.new.time ≡ self.old.time) × (self.new.reset_points ≡ self.old.reset_points) }
         ensures patches { AllByRecursion LiesWithin self.new.open }
         ensures same { IsSameViews self.old.view self.new.view }
-        ensures stray { OnOk result (self.new.stray ≡ option_or self.old.stray (if is_stray (entry_of record.now) self.old.open then Some self.old.end else None)) }
-        ensures table { self.old.stray ≡ None → OnOk result (self.new.stray ≡ None → self.new.open ≡ after (self.old.end + 1) (entry_of record.now) self.old.open) }
-        ensures view { self.old.stray ≡ None → OnOk result (self.new.stray ≡ None → self.new.view ≡ option_map (view_after (self.old.end + 1) (entry_of record.now) self.old.open) self.old.view) }
+        ensures out_of_order { OnOk result (self.new.out_of_order ≡ option_or self.old.out_of_order (if is_out_of_order (entry_of record.now) self.old.open then Some self.old.end else None)) }
+        ensures table { self.old.out_of_order ≡ None → OnOk result (self.new.out_of_order ≡ None → self.new.open ≡ after (self.old.end + 1) (entry_of record.now) self.old.open) }
+        ensures view { self.old.out_of_order ≡ None → OnOk result (self.new.out_of_order ≡ None → self.new.view ≡ option_map (view_after (self.old.end + 1) (entry_of record.now) self.old.open) self.old.view) }
         ensures memory { (slot : ℕ) → IsErrOf result (ReplayFault.BadRecord slot) → ⊥ }
     {
-        if self.stray.is_some() {
+        if self.out_of_order.is_some() {
             return Ok(());
         }
         let position = self.end + 1;
@@ -143,7 +143,7 @@ impl LogState {
             Ok(changes) => bring_view(&mut self.view, position, &changes),
             Err(OrderFault::NotOpen) => Ok(()),
             Err(OrderFault::AlreadyOpen | OrderFault::TooManyOpen) => {
-                self.stray = Some(self.end as u32);
+                self.out_of_order = Some(self.end as u32);
                 Ok(())
             }
             Err(OrderFault::OutOfMemory) => Err(ReplayFault::OutOfMemory),
@@ -154,20 +154,20 @@ impl LogState {
     fn keep(&mut self, record: &Record) -> Result<(), ReplayFault>
         requires time { self.old.time ≤ 2 ^ 48 }
         requires record { IsRecord (entry_of record.now) }
-        ensures same { (self.new.end ≡ self.old.end) × (self.new.stray ≡ self.old.stray) × (self.new.open ≡ self.old.open) × (self.new.view ≡ self.old.view) }
+        ensures same { (self.new.end ≡ self.old.end) × (self.new.out_of_order ≡ self.old.out_of_order) × (self.new.open ≡ self.old.open) × (self.new.view ≡ self.old.view) }
         ensures bounded { self.new.time ≤ 2 ^ 48 }
         ensures time { OnOk result (self.new.time ≡ time_after self.old.time (entry_of record.now)) }
-        ensures turns { OnOk result (self.new.turns ≡ turns_after self.old.end (entry_of record.now) self.old.turns) }
+        ensures reset_points { OnOk result (self.new.reset_points ≡ reset_points_after self.old.end (entry_of record.now) self.old.reset_points) }
         ensures memory { (slot : ℕ) → IsErrOf result (ReplayFault.BadRecord slot) → ⊥ }
     {
         match record {
             Record::Commit { time, .. } => self.time = *time,
             Record::Reset { target, time, .. } => {
-                let turn = Turn {
+                let point = ResetPoint {
                     at: self.end,
                     target: *target,
                 };
-                if self.turns.push(turn).is_err() {
+                if self.reset_points.push(point).is_err() {
                     return Err(ReplayFault::OutOfMemory);
                 }
                 self.time = *time;
@@ -188,10 +188,10 @@ impl LogState {
         ensures patches { AllByRecursion LiesWithin self.new.open }
         ensures same { IsSameViews self.old.view self.new.view }
         ensures time { OnOk result (self.new.time ≡ time_after self.old.time (entry_of record.now)) }
-        ensures stray { OnOk result (self.new.stray ≡ option_or self.old.stray (if is_stray (entry_of record.now) self.old.open then Some self.old.end else None)) }
-        ensures table { self.old.stray ≡ None → OnOk result (self.new.stray ≡ None → self.new.open ≡ after (self.old.end + 1) (entry_of record.now) self.old.open) }
-        ensures turns { OnOk result (self.new.turns ≡ turns_after (self.old.end + 1) (entry_of record.now) self.old.turns) }
-        ensures view { self.old.stray ≡ None → OnOk result (self.new.stray ≡ None → self.new.view ≡ option_map (view_after (self.old.end + 1) (entry_of record.now) self.old.open) self.old.view) }
+        ensures out_of_order { OnOk result (self.new.out_of_order ≡ option_or self.old.out_of_order (if is_out_of_order (entry_of record.now) self.old.open then Some self.old.end else None)) }
+        ensures table { self.old.out_of_order ≡ None → OnOk result (self.new.out_of_order ≡ None → self.new.open ≡ after (self.old.end + 1) (entry_of record.now) self.old.open) }
+        ensures reset_points { OnOk result (self.new.reset_points ≡ reset_points_after (self.old.end + 1) (entry_of record.now) self.old.reset_points) }
+        ensures view { self.old.out_of_order ≡ None → OnOk result (self.new.out_of_order ≡ None → self.new.view ≡ option_map (view_after (self.old.end + 1) (entry_of record.now) self.old.open) self.old.view) }
         ensures memory { (slot : ℕ) → IsErrOf result (ReplayFault.BadRecord slot) → ⊥ }
     {
         self.follow(record)?;

@@ -1,7 +1,7 @@
 // What a form did, and the text that tells it.
 ghost use Rattle.std.specs.Prelude.{◌≡◌, ◌++◌, ℕ, List, None, IfOk, string_bytes};
 ghost use Rattle.std.specs.List.{flat_map};
-ghost use Rattle.onbar_words.specs.SpaceHead.{spaces_of};
+ghost use Rattle.site_headers.specs.Views.{spaces_of};
 ghost use Rattle.site_model.specs.Texts.{space_text};
 ghost use Rattle.onbar_command.specs.Forms.{text_told, status_told, IsTellable};
 ghost use Rattle.onbar_command.specs.Showing.{text_of_shown, IsWhole};

@@ -2,8 +2,8 @@
 ghost use Rattle.std.specs.Prelude.{◌≡◌, ◌+◌, ◌*◌, ◌-◌, ◌<◌, List, Some, IsSome, IfSome, ◌≤◌, ◌^◌, ◌++◌, ◌⊎◌, [], length, IsTrue};
 ghost use Rattle.std.specs.List.{AllByRecursion};
 ghost use Rattle.log_history.specs.History.{History};
-ghost use Rattle.onbar_words.specs.Cutting.{TakesFront};
-ghost use Rattle.onbar_words.specs.SpaceHead.{spaces_of};
+ghost use Rattle.script_lines.specs.Cutting.{TakesFront};
+ghost use Rattle.site_headers.specs.Views.{spaces_of};
 ghost use Rattle.site_disk.specs.Causes.{Rose};
 ghost use Rattle.site_disk.specs.Ledger.{MayUse};
 ghost use Rattle.site_headers.specs.Heads.{IsSpace};
@@ -13,11 +13,11 @@ ghost use Rattle.site_model.specs.Worlds.{Site};
 ghost use Rattle.onbar_command.specs.Collecting.{IsBounded};
 ghost use Rattle.onbar_command.specs.Ends.{LinesEnd, LastEnds, RunEnds};
 ghost use Rattle.onbar_command.specs.Scripts.{run_text};
-ghost use Rattle.onbar_command.specs.Turns.{Between, stands_at};
+ghost use Rattle.onbar_command.specs.ScriptSteps.{Between, stands_at};
 
-use crate::transactions::{Stop, Work, append_collected, stopped_by, turn};
-use onbar_words::SpaceHead;
+use crate::transactions::{Stop, Work, append_collected, stopped_by, take_step};
 use site_disk::{Disk, Era, Source};
+use site_headers::SpaceHead;
 
 /// Takes the lines of a script, and appends each batch that is whole, up to the script's end or a fault.
 fn take_lines<D: Disk, S: Source>(
@@ -43,10 +43,11 @@ fn take_lines<D: Disk, S: Source>(
     requires counted { work.old.counts.lines ≤ work.old.slots.used }
     requires commits { work.old.counts.commits ≤ work.old.counts.lines }
 
-    ensures ended { IsTrue D.tells → IsTrue S.tells → (site : Site)
+    ensures ended { IsTrue D.is_modelled → IsTrue S.is_modelled → (site : Site)
         → Between site [] work.old (D.ledger log.old).last (D.bytes log.old) (D.image log.old)
         → LinesEnd site (run_text (spaces_of spaces.now) moment (work.old.progress.lines.held ++ S.left source.old) (stands_at work.old site [] []))
         (work.new.progress.lines.held ++ S.left source.new) work.new era.old.number (D.ledger log.new).last (D.bytes log.new) (D.image log.old) (D.image log.new) result }
+    ensures at_end { IsTrue S.is_modelled → result ≡ Stop.End → S.left source.new ≡ [] }
 
     ensures era { era.new.number ≤ era.old.number + 16777217 }
     ensures era_later { era.old.number ≤ era.new.number }
@@ -58,17 +59,17 @@ fn take_lines<D: Disk, S: Source>(
     ensures commits { work.new.counts.commits ≤ work.new.counts.lines }
 
     ensures read { (D.ledger log.new).read ≤ (D.ledger log.old).read }
-    ensures written { IsTrue D.tells → IsTrue S.tells → (site : Site) → Between site [] work.old (D.ledger log.old).last (D.bytes log.old) (D.image log.old)
+    ensures written { IsTrue D.is_modelled → IsTrue S.is_modelled → (site : Site) → Between site [] work.old (D.ledger log.old).last (D.bytes log.old) (D.image log.old)
         → (D.ledger log.new).written + 4097 * era.old.number ≤ (D.ledger log.old).written + 4097 * era.new.number }
     ensures may { MayUse era.new (D.ledger log.new) }
     ensures later { (D.ledger log.old).faults ≤ (D.ledger log.new).faults }
-    ensures taken { IsTrue S.tells → TakesFront (S.left source.old) (S.left source.new) }
+    ensures taken { IsTrue S.is_modelled → TakesFront (S.left source.old) (S.left source.new) }
     ensures source_later { S.faults source.old ≤ S.faults source.new }
     ensures read_fault { result ≡ Stop.ReadFault → Rose (S.faults source.old) (S.faults source.new) }
     ensures disk_fault { result ≡ Stop.DiskFault → Rose (D.ledger log.old).faults (D.ledger log.new).faults }
 {
     'lines: loop {
-        if let Some(stop) = turn(log, era, work, buffer, source, spaces, moment) {
+        if let Some(stop) = take_step(log, era, work, buffer, source, spaces, moment) {
             return stop;
         }
     }
@@ -90,7 +91,7 @@ fn append_last<D: Disk>(
     requires counted { work.old.counts.lines ≤ work.old.slots.used }
     requires commits { work.old.counts.commits ≤ work.old.counts.lines }
 
-    ensures ended { IsTrue D.tells → (site : Site) (added : History) (passed : List History) (status : Status)
+    ensures ended { IsTrue D.is_modelled → (site : Site) (added : History) (passed : List History) (status : Status)
         → Between site added work.old (D.ledger log.old).last (D.bytes log.old) (D.image log.old)
         → LastEnds site added passed (ended status (stands_at work.old site added passed)) status work.old work.new (D.ledger log.new).last (D.bytes log.new)
         era.old.number (D.image log.old) (D.image log.new) result }
@@ -106,7 +107,7 @@ fn append_last<D: Disk>(
     ensures counted { work.new.counts.lines ≤ work.new.slots.used }
     ensures commits { work.new.counts.commits ≤ work.new.counts.lines }
     ensures read { (D.ledger log.new).read ≤ (D.ledger log.old).read }
-    ensures written { IsTrue D.tells → (site : Site) (added : History) → Between site added work.old (D.ledger log.old).last (D.bytes log.old) (D.image log.old)
+    ensures written { IsTrue D.is_modelled → (site : Site) (added : History) → Between site added work.old (D.ledger log.old).last (D.bytes log.old) (D.image log.old)
         → (D.ledger log.new).written + 4097 * era.old.number ≤ (D.ledger log.old).written + 4097 * era.new.number }
     ensures may { MayUse era.new (D.ledger log.new) }
     ensures later { (D.ledger log.old).faults ≤ (D.ledger log.new).faults }
@@ -145,10 +146,11 @@ pub fn run_script<D: Disk, S: Source>(
     requires counted { work.old.counts.lines ≤ work.old.slots.used }
     requires commits { work.old.counts.commits ≤ work.old.counts.lines }
 
-    ensures ended { IsTrue D.tells → IsTrue S.tells → (site : Site)
+    ensures ended { IsTrue D.is_modelled → IsTrue S.is_modelled → (site : Site)
         → Between site [] work.old (D.ledger log.old).last (D.bytes log.old) (D.image log.old)
         → RunEnds site (run_text (spaces_of spaces.now) moment (work.old.progress.lines.held ++ S.left source.old) (stands_at work.old site [] []))
         (work.new.progress.lines.held ++ S.left source.new) work.new era.old.number (D.ledger log.new).last (D.bytes log.new) (D.image log.old) (D.image log.new) result }
+    ensures at_end { IsTrue S.is_modelled → result ≡ Stop.End → S.left source.new ≡ [] }
 
     ensures era { era.new.number ≤ era.old.number + 16777218 }
     ensures era_later { era.old.number ≤ era.new.number }
@@ -158,11 +160,11 @@ pub fn run_script<D: Disk, S: Source>(
     ensures commits { work.new.counts.commits ≤ work.new.counts.lines }
 
     ensures read { (D.ledger log.new).read ≤ (D.ledger log.old).read }
-    ensures written { IsTrue D.tells → IsTrue S.tells → (site : Site) → Between site [] work.old (D.ledger log.old).last (D.bytes log.old) (D.image log.old)
+    ensures written { IsTrue D.is_modelled → IsTrue S.is_modelled → (site : Site) → Between site [] work.old (D.ledger log.old).last (D.bytes log.old) (D.image log.old)
         → (D.ledger log.new).written + 4097 * era.old.number ≤ (D.ledger log.old).written + 4097 * era.new.number }
     ensures may { MayUse era.new (D.ledger log.new) }
     ensures later { (D.ledger log.old).faults ≤ (D.ledger log.new).faults }
-    ensures taken { IsTrue S.tells → TakesFront (S.left source.old) (S.left source.new) }
+    ensures taken { IsTrue S.is_modelled → TakesFront (S.left source.old) (S.left source.new) }
     ensures source_later { S.faults source.old ≤ S.faults source.new }
     ensures read_fault { result ≡ Stop.ReadFault → Rose (S.faults source.old) (S.faults source.new) }
     ensures disk_fault { result ≡ Stop.DiskFault → Rose (D.ledger log.old).faults (D.ledger log.new).faults }

@@ -1,17 +1,19 @@
 // One line of a script after another.
-ghost use Rattle.std.specs.Prelude.{◌≡◌, ◌+◌, ◌<◌, ◌≤◌, ◌^◌, ◌++◌, List, length, IsTrue};
+ghost use Rattle.std.specs.Prelude.{◌≡◌, ◌+◌, ◌<◌, ◌≤◌, ◌^◌, [], ◌++◌, List, length, IsTrue};
 ghost use Rattle.std.specs.List.{AllByRecursion};
 ghost use Rattle.log_history.specs.History.{History};
-ghost use Rattle.onbar_words.specs.Cutting.{TakesFront};
-ghost use Rattle.onbar_words.specs.SpaceHead.{spaces_of};
+ghost use Rattle.script_lines.specs.Cutting.{TakesFront};
+ghost use Rattle.site_headers.specs.Views.{spaces_of};
 ghost use Rattle.site_disk.specs.Causes.{Rose};
 ghost use Rattle.site_headers.specs.Heads.{IsSpace};
 ghost use Rattle.onbar_command.specs.Collecting.{IsBounded};
 ghost use Rattle.onbar_command.specs.Scripts.{place_at, StepsTo, limit_behind, Advances};
 
 use crate::collecting::{Collected, Taken};
-use onbar_words::{LineFault, Lines, SpaceHead, Why};
+use onbar_grammar::Why;
+use script_lines::{LineFault, Lines};
 use site_disk::Source;
+use site_headers::SpaceHead;
 
 /// How far a script has been taken.
 #[derive(Drop)]
@@ -52,14 +54,15 @@ pub fn take_next_line<S: Source>(
     requires bounded { IsBounded 31 progress.old.collected }
     requires line { progress.old.line ≤ progress.old.lines.begun }
 
-    ensures steps { IsTrue S.tells → (history : History) (passed : List History) → length history ≡ end
+    ensures steps { IsTrue S.is_modelled → (history : History) (passed : List History) → length history ≡ end
         → StepsTo (spaces_of spaces.now) moment (progress.old.lines.held ++ S.left source.old) (progress.new.lines.held ++ S.left source.new)
         (place_at progress.old history passed) (place_at progress.new history passed) result }
+    ensures at_end { IsTrue S.is_modelled → result ≡ Step.End → S.left source.new ≡ [] }
     ensures bounded { IsBounded (limit_behind result) progress.new.collected }
     ensures some { result ≡ Step.Whole → 0 < length progress.new.collected.batch.items }
     ensures advances { Advances progress.old progress.new result }
     ensures script_limit { progress.new.lines.begun ≤ 16777216 }
-    ensures taken { IsTrue S.tells → TakesFront (S.left source.old) (S.left source.new) }
+    ensures taken { IsTrue S.is_modelled → TakesFront (S.left source.old) (S.left source.new) }
     ensures failed { result ≡ Step.ReadFault → Rose (S.faults source.old) (S.faults source.new) }
     ensures later { S.faults source.old ≤ S.faults source.new }
 {

@@ -1,7 +1,7 @@
 // A space of a formatted site is shown, or a page of it, as the end of the log has it.
 ghost use Rattle.std.specs.Prelude.{◌≡◌, ◌+◌, ◌*◌, ◌<◌, ◌≤◌, ◌^◌, ℕ, List, length, None, Some, IsTrue, ◌⊎◌, IfOk, IfErr, IfSome, OnOk, IsErrOf};
 ghost use Rattle.log_history.specs.History.{History};
-ghost use Rattle.onbar_words.specs.SpaceHead.{spaces_of};
+ghost use Rattle.site_headers.specs.Views.{spaces_of};
 ghost use Rattle.site_disk.specs.Causes.{Rose};
 ghost use Rattle.site_disk.specs.Ledger.{MayUse, Uses};
 ghost use Rattle.site_headers.specs.Heads.{Head, IsHead};
@@ -9,21 +9,21 @@ ghost use Rattle.site_headers.specs.Views.{head_of};
 ghost use Rattle.site_model.specs.declared.disk_name.DiskName.{DiskName};
 ghost use Rattle.site_model.specs.Commands.{CutsShort};
 ghost use Rattle.site_model.specs.Layouts.{HoldsLog};
-ghost use Rattle.site_model.specs.Openings.{CanOpen, LogRefuses, ShowRefuses};
+ghost use Rattle.site_model.specs.Openings.{CanOpen, IsOfDisks, LogRefuses};
 ghost use Rattle.site_model.specs.Runs.{place_refusal, show_refusal};
 ghost use Rattle.site_model.specs.Worlds.{Site};
 ghost use Rattle.space_pages.specs.Pages.{empty_pages, pages_view};
 ghost use Rattle.onbar_command.specs.Disks.{IsKept};
 ghost use Rattle.onbar_command.specs.Extending.{log_status};
 ghost use Rattle.onbar_command.specs.Replays.{IsSameViews, IsStateOf};
-ghost use Rattle.onbar_command.specs.Showing.{stretch_at, CanShow, HoldsOpenLog, IsWhole, ReadsAs, ShowsAs};
+ghost use Rattle.onbar_command.specs.Showing.{stretch_at, CanShow, HoldsOpenLog, IsWhole, ReadsAs, ShowRefuses, ShowsAs};
 
 use crate::extending::log_status;
 use crate::opening::open_log;
 use crate::replay::{LogState, View};
 use bsa_descriptor::Text;
-use live_positions::Turns;
-use onbar_words::find_space;
+use live_positions::ResetPoints;
+use script_lines::find_space;
 use site_disk::{Disk, Era};
 use site_headers::SiteHead;
 use site_model::{DiskName, Status};
@@ -53,6 +53,7 @@ fn find_pages(space: u16, pages: u32, page: Option<u32>) -> Result<Stretch, Stat
     ensures some { (name : List ℕ) → IfOk result (λ stretch. place_refusal name page (Some (record { 0 = space; 1 = pages })) ≡ None) }
     ensures refused { (name : List ℕ) → IfErr result (λ status. place_refusal name page (Some (record { 0 = space; 1 = pages })) ≡ Some status) }
     ensures uncut { IfErr result (λ status. CutsShort status → ⊥) }
+    ensures answered { IfErr result IsOfDisks }
 {
     match page {
         None => Ok(Stretch {
@@ -70,14 +71,23 @@ fn find_pages(space: u16, pages: u32, page: Option<u32>) -> Result<Stretch, Stat
 }
 
 /// A view of pages that were never written.
-fn begin_view(alloc: Global, stretch: Stretch, turns: Turns, at: u64) -> Result<View, Status>
+fn begin_view(
+    alloc: Global,
+    stretch: Stretch,
+    reset_points: ResetPoints,
+    at: u64,
+) -> Result<View, Status>
     requires { stretch.first + stretch.count < 2 ^ 32 }
     ensures pages { IfOk result (λ begun. begun.pages ≡ pages_view stretch.space stretch.first (empty_pages stretch.count)) }
-    ensures turns { IfOk result (λ begun. (begun.turns ≡ turns) × (begun.at ≡ at)) }
+    ensures reset_points { IfOk result (λ begun. (begun.reset_points ≡ reset_points) × (begun.at ≡ at)) }
     ensures memory { IfErr result (λ status. status ≡ Status.OutOfMemory) }
 {
     match Pages::new(alloc, stretch.space, stretch.first, stretch.count) {
-        Ok(pages) => Ok(View { pages, turns, at }),
+        Ok(pages) => Ok(View {
+            pages,
+            reset_points,
+            at,
+        }),
         Err(AllocError) => Err(Status::OutOfMemory),
     }
 }
@@ -94,10 +104,10 @@ fn read_view<D: Disk>(
     requires era { MayUse era.now (D.ledger log.old) }
     requires empty { begun.pages.pages ≡ empty_pages (length begun.pages.pages) }
 
-    ensures opens { IsTrue D.tells → OnOk result (HoldsOpenLog site (D.bytes log.old)) }
-    ensures refused { IsTrue D.tells → IfErr result (λ status. CutsShort status ⊎ LogRefuses site (D.bytes log.old) status) }
-    ensures cut { IsTrue D.tells → (s : Site) → s.head.site ≡ site → CanOpen s.history → HoldsLog s (D.bytes log.old) → IfErr result CutsShort }
-    ensures state { IsTrue D.tells → (s : Site) → s.head.site ≡ site → CanOpen s.history → HoldsLog s (D.bytes log.old) → IfOk result (IsStateOf s.history) }
+    ensures opens { IsTrue D.is_modelled → OnOk result (HoldsOpenLog site (D.bytes log.old)) }
+    ensures refused { IsTrue D.is_modelled → IfErr result (λ status. CutsShort status ⊎ LogRefuses site (D.bytes log.old) status) }
+    ensures cut { IsTrue D.is_modelled → (s : Site) → s.head.site ≡ site → CanOpen s.history → HoldsLog s (D.bytes log.old) → IfErr result CutsShort }
+    ensures state { IsTrue D.is_modelled → (s : Site) → s.head.site ≡ site → CanOpen s.history → HoldsLog s (D.bytes log.old) → IfOk result (IsStateOf s.history) }
     ensures same { IfOk result (λ state. IsSameViews (Some begun) state.view) }
     ensures end { IfOk result (λ state. state.end ≤ 65536) }
 
@@ -105,6 +115,7 @@ fn read_view<D: Disk>(
     ensures kept { IfErr result (λ status. CutsShort status ⊎ (D.bytes log.new ≡ D.bytes log.old)) }
     ensures images { (f : ℕ) (c : List ℕ) → D.image log.new f c → D.image log.old f c }
     ensures ledger { Uses era.now 8458240 0 (D.ledger log.old) (D.ledger log.new) }
+    ensures answered { IfErr result (λ status. CutsShort status ⊎ IsOfDisks status) }
     ensures no_read_fault { IsErrOf result Status.ReadFault → ⊥ }
     ensures no_write_fault { IsErrOf result Status.WriteFault → ⊥ }
     ensures disk_fault { (name : DiskName) → IsErrOf result (Status.DiskFault name) → (name ≡ DiskName.Log) × Rose (D.ledger log.old).faults (D.ledger log.new).faults }
@@ -139,26 +150,31 @@ fn read_pages<D: Disk>(
     requires era { MayUse era.now (D.ledger log.old) }
     requires fits { stretch.first + stretch.count < 2 ^ 32 }
 
-    ensures opens { IsTrue D.tells → OnOk result (HoldsOpenLog site (D.bytes log.old)) }
-    ensures refused { IsTrue D.tells → IfErr result (λ status. CutsShort status ⊎ LogRefuses site (D.bytes log.old) status) }
-    ensures pages { IsTrue D.tells → (s : Site) → s.head.site ≡ site → CanOpen s.history → HoldsLog s (D.bytes log.old) → ReadsAs s.history stretch result }
+    ensures opens { IsTrue D.is_modelled → OnOk result (HoldsOpenLog site (D.bytes log.old)) }
+    ensures refused { IsTrue D.is_modelled → IfErr result (λ status. CutsShort status ⊎ LogRefuses site (D.bytes log.old) status) }
+    ensures pages { IsTrue D.is_modelled → (s : Site) → s.head.site ≡ site → CanOpen s.history → HoldsLog s (D.bytes log.old) → ReadsAs s.history stretch result }
     ensures first { IfOk result (λ pages. pages.first ≡ stretch.first) }
 
     ensures bytes { OnOk result (D.bytes log.new ≡ D.bytes log.old) }
     ensures kept { IfErr result (λ status. CutsShort status ⊎ (D.bytes log.new ≡ D.bytes log.old)) }
     ensures images { (f : ℕ) (c : List ℕ) → D.image log.new f c → D.image log.old f c }
     ensures ledger { Uses era.now 16916480 0 (D.ledger log.old) (D.ledger log.new) }
+    ensures answered { IfErr result (λ status. CutsShort status ⊎ IsOfDisks status) }
     ensures no_read_fault { IsErrOf result Status.ReadFault → ⊥ }
     ensures no_write_fault { IsErrOf result Status.WriteFault → ⊥ }
     ensures disk_fault { (name : DiskName) → IsErrOf result (Status.DiskFault name) → (name ≡ DiskName.Log) × Rose (D.ledger log.old).faults (D.ledger log.new).faults }
 {
-    let begun = begin_view(alloc, stretch, Turns::new(alloc), u64::MAX)?;
+    let begun = begin_view(alloc, stretch, ResetPoints::new(alloc), u64::MAX)?;
     let state = read_view(alloc, log, era, site, buffer, begun)?;
-    if state.turns.is_empty() {
+    if state.reset_points.is_empty() {
         return Ok(pages_in(state));
     }
-    let LogState { turns, end, .. } = state;
-    let again = begin_view(alloc, stretch, turns, end)?;
+    let LogState {
+        reset_points,
+        end,
+        ..
+    } = state;
+    let again = begin_view(alloc, stretch, reset_points, end)?;
     let reread = read_view(alloc, log, era, site, buffer, again)?;
     Ok(pages_in(reread))
 }
@@ -177,11 +193,11 @@ pub fn show_log<D: Disk>(
     requires may { MayUse era.now (D.ledger log.old) }
 
     // A space or a page that there isn't is refused before the log is read; then a log is refused for its bytes.
-    ensures opens { IsTrue D.tells → OnOk result (CanShow (head_of head.now) name page (D.bytes log.old)) }
-    ensures refused { IsTrue D.tells → IfErr result (λ status. CutsShort status ⊎ ShowRefuses (head_of head.now) name page (D.bytes log.old) status) }
+    ensures opens { IsTrue D.is_modelled → OnOk result (CanShow (head_of head.now) name page (D.bytes log.old)) }
+    ensures refused { IsTrue D.is_modelled → IfErr result (λ status. CutsShort status ⊎ ShowRefuses (head_of head.now) name page (D.bytes log.old) status) }
     ensures kept { IfErr result (λ status. CutsShort status
         ⊎ IsKept (D.ledger log.old) (D.ledger log.new) (D.bytes log.old) (D.bytes log.new) (D.image log.old) (D.image log.new)) }
-    ensures shown { IsTrue D.tells → (site : Site) → site.head ≡ head_of head.now → CanOpen site.history → HoldsLog site (D.bytes log.old)
+    ensures shown { IsTrue D.is_modelled → (site : Site) → site.head ≡ head_of head.now → CanOpen site.history → HoldsLog site (D.bytes log.old)
         → ShowsAs site name page result }
     ensures whole { IfOk result IsWhole }
 
@@ -191,6 +207,7 @@ pub fn show_log<D: Disk>(
     ensures later { (D.ledger log.old).faults ≤ (D.ledger log.new).faults }
     ensures read { (D.ledger log.new).read ≤ (D.ledger log.old).read + 16916480 }
     ensures written { (D.ledger log.new).written ≤ (D.ledger log.old).written }
+    ensures answered { IfErr result (λ status. CutsShort status ⊎ IsOfDisks status) }
     ensures no_read_fault { IsErrOf result Status.ReadFault → ⊥ }
     ensures no_write_fault { IsErrOf result Status.WriteFault → ⊥ }
     ensures disk_fault { (name : DiskName) → IsErrOf result (Status.DiskFault name) → (name ≡ DiskName.Log) × Rose (D.ledger log.old).faults (D.ledger log.new).faults }

@@ -9,11 +9,11 @@ ghost use Rattle.site_disk.specs.Images.{Leaves};
 ghost use Rattle.site_disk.specs.Ledger.{MayUse};
 ghost use Rattle.site_model.specs.Texts.{is_commit_entry};
 ghost use Rattle.site_model.specs.Worlds.{Site};
-ghost use Rattle.onbar_words.specs.Cutting.{TakesFront};
-ghost use Rattle.onbar_words.specs.SpaceHead.{spaces_of};
+ghost use Rattle.script_lines.specs.Cutting.{TakesFront};
+ghost use Rattle.site_headers.specs.Views.{spaces_of};
 ghost use Rattle.site_headers.specs.Heads.{IsSpace};
 ghost use Rattle.onbar_command.specs.Collecting.{IsBounded};
-ghost use Rattle.onbar_command.specs.Turns.{Between, Turns, IsQuiet};
+ghost use Rattle.onbar_command.specs.ScriptSteps.{Between, TakesStep, IsQuiet};
 ghost use Rattle.site_model.specs.LogLaws.{extended};
 ghost use Rattle.onbar_command.specs.Logs.{IsReady, MayHold};
 
@@ -21,8 +21,9 @@ use crate::appending::append_batch;
 use crate::script::{Progress, Step, take_next_line};
 use gated_slots::{AppendFault, Slots};
 use log_record::Record;
-use onbar_words::{SpaceHead, Why};
+use onbar_grammar::Why;
 use site_disk::{Disk, Era, Source};
+use site_headers::SpaceHead;
 
 /// How many records of a run stand, and how many of them are Commits.
 #[derive(Clone, Copy, Debug, PartialEq, Eq)]
@@ -78,13 +79,13 @@ pub fn append_collected<D: Disk>(
     ensures few { OnOk result (work.new.counts.commits ≤ work.new.counts.lines) }
     ensures value { OnErr result (work.new ≡ work.old) }
 
-    ensures ready { IsTrue D.tells → (site : Site) → IsReady site work.old.slots (D.ledger log.old).last (D.bytes log.old) (D.image log.old)
+    ensures ready { IsTrue D.is_modelled → (site : Site) → IsReady site work.old.slots (D.ledger log.old).last (D.bytes log.old) (D.image log.old)
         → OnOk result (IsReady (extended site (history_of work.old.progress.collected.batch.items)) work.new.slots (D.ledger log.new).last (D.bytes log.new) (D.image log.new)) }
-    ensures crash { IsTrue D.tells → (site : Site) → IsReady site work.old.slots (D.ledger log.old).last (D.bytes log.old) (D.image log.old)
+    ensures crash { IsTrue D.is_modelled → (site : Site) → IsReady site work.old.slots (D.ledger log.old).last (D.bytes log.old) (D.image log.old)
         → Leaves era.new.number (MayHold site (history_of work.old.progress.collected.batch.items)) (D.image log.old) (D.image log.new) }
 
     ensures read { (D.ledger log.new).read ≤ (D.ledger log.old).read }
-    ensures written { IsTrue D.tells → (site : Site) → IsReady site work.old.slots (D.ledger log.old).last (D.bytes log.old) (D.image log.old)
+    ensures written { IsTrue D.is_modelled → (site : Site) → IsReady site work.old.slots (D.ledger log.old).last (D.bytes log.old) (D.image log.old)
         → (D.ledger log.new).written ≤ (D.ledger log.old).written + 4097 }
     ensures may { MayUse era.new (D.ledger log.new) }
     ensures later { (D.ledger log.old).faults ≤ (D.ledger log.new).faults }
@@ -132,7 +133,7 @@ pub fn stopped_by(fault: AppendFault) -> Stop
 }
 
 /// Takes a line, and appends the batch that it ends. `None` where the run goes on.
-pub fn turn<D: Disk, S: Source>(
+pub fn take_step<D: Disk, S: Source>(
     log: &mut D,
     era: &mut Era,
     work: &mut Work,
@@ -154,10 +155,11 @@ pub fn turn<D: Disk, S: Source>(
     requires counted { work.old.counts.lines ≤ work.old.slots.used }
     requires commits { work.old.counts.commits ≤ work.old.counts.lines }
 
-    ensures turned { IsTrue D.tells → IsTrue S.tells → (site : Site) (added : History) (passed : List History)
+    ensures stepped { IsTrue D.is_modelled → IsTrue S.is_modelled → (site : Site) (added : History) (passed : List History)
         → Between site added work.old (D.ledger log.old).last (D.bytes log.old) (D.image log.old)
-        → Turns (spaces_of spaces.now) moment site added passed (work.old.progress.lines.held ++ S.left source.old) (work.new.progress.lines.held ++ S.left source.new)
+        → TakesStep (spaces_of spaces.now) moment site added passed (work.old.progress.lines.held ++ S.left source.old) (work.new.progress.lines.held ++ S.left source.new)
         work.old work.new (D.ledger log.new).last (D.bytes log.new) era.old.number (D.image log.old) (D.image log.new) result }
+    ensures at_end { IsTrue S.is_modelled → result ≡ Some Stop.End → S.left source.new ≡ [] }
     ensures quiet { IsQuiet result → log.new ≡ log.old }
     ensures value { IsSome result → (work.new.slots ≡ work.old.slots) × (work.new.counts ≡ work.old.counts) }
 
@@ -174,11 +176,11 @@ pub fn turn<D: Disk, S: Source>(
     ensures commits { work.new.counts.commits ≤ work.new.counts.lines }
 
     ensures read { (D.ledger log.new).read ≤ (D.ledger log.old).read }
-    ensures written { IsTrue D.tells → (site : Site) (added : History) → Between site added work.old (D.ledger log.old).last (D.bytes log.old) (D.image log.old)
+    ensures written { IsTrue D.is_modelled → (site : Site) (added : History) → Between site added work.old (D.ledger log.old).last (D.bytes log.old) (D.image log.old)
         → (D.ledger log.new).written + 4097 * era.old.number ≤ (D.ledger log.old).written + 4097 * era.new.number }
     ensures may { MayUse era.new (D.ledger log.new) }
     ensures later { (D.ledger log.old).faults ≤ (D.ledger log.new).faults }
-    ensures taken { IsTrue S.tells → TakesFront (S.left source.old) (S.left source.new) }
+    ensures taken { IsTrue S.is_modelled → TakesFront (S.left source.old) (S.left source.new) }
     ensures source_later { S.faults source.old ≤ S.faults source.new }
     ensures read_fault { result ≡ Some Stop.ReadFault → Rose (S.faults source.old) (S.faults source.new) }
     ensures disk_fault { result ≡ Some Stop.DiskFault → Rose (D.ledger log.old).faults (D.ledger log.new).faults }

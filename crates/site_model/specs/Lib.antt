@@ -12,3 +12,4 @@ pub mod Stops
 pub mod OpenRunsLaws
 pub mod Spelled
 pub mod LogLaws
+pub mod Exits

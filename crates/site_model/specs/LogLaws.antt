@@ -8,7 +8,7 @@ use Rattle.std.proofs.lemmas.List.Concat.{flat_map-append}
 use Rattle.log_history.specs.History.{History}
 use Rattle.log_record.specs.Layout.{IsRecord, spelling}
 use Rattle.site_disk.specs.Bytes.{extent}
-use Rattle.gated_slots.specs.Slots.{used, Elsewhere, Keeps, Gains}
+use Rattle.gated_slots.specs.Slots.{used, OutsideArea, Keeps, Gains}
 use Rattle.site_headers.specs.Headers.{HasHeader, log_tail}
 use Rattle.site_model.specs.Worlds.{Site}
 use Rattle.site_model.specs.Layouts.{HoldsLog, log_area}
@@ -19,7 +19,7 @@ abbrev pub extended : Site → History → Site
 extended site batch = record site { history = site.history ++ batch }
 
 -- the header lies apart from the slots
-pub HasHeader-elsewhere : (tail old new : List ℕ) → Elsewhere log_area old new → HasHeader tail old → HasHeader tail new
+pub HasHeader-elsewhere : (tail old new : List ℕ) → OutsideArea log_area old new → HasHeader tail old → HasHeader tail new
 HasHeader-elsewhere tail old new elsewhere has = record {
   gate = has.gate;
   is_open = has.is_open;

@@ -5,7 +5,7 @@ use Rattle.std.specs.List.{AllByRecursion}
 use Rattle.std.specs.Option.{option_or, is_some}
 use Rattle.std.proofs.Common.{arith, ap, sym, subst, ◌∙◌, append_assoc, length-append, inl, inr, ⊎_elim}
 use Rattle.std.proofs.lemmas.List.{append-nil, length-reverse}
-use Rattle.log_history.specs.History.{Entry, History, begin, write, commit, abort, reset}
+use Rattle.log_history.specs.History.{LogEntry, History, begin, write, commit, abort, reset}
 use Rattle.log_history.specs.Transactions.{Table, table_of, after, refusal, unless_new, lookup}
 use Rattle.txn_table.specs.TableLaws.{reverse_push, table_of-push}
 use Rattle.onbar_grammar.specs.declared.Why.{Why}
@@ -16,34 +16,34 @@ use Rattle.site_model.specs.declared.status.Status.{Status}
 use Rattle.site_model.specs.declared.status.Status.TheVariants.{Ok as Done, ScriptFault, LogFull}
 use Rattle.site_model.specs.declared.status.LogFull.TheVariants.{Positions}
 use Rattle.site_model.specs.Commands.{IsAmong, IsPassed}
-use Rattle.site_model.specs.Openings.{GoesBack, AllGoBack, is_stray, stray_back, first_stray, CanOpen, IsOpenable, IsOpenableSite}
-use Rattle.site_model.specs.Runs.{Collected, Place, Ending, Outcome, goes_on, ends, Taken, nothing, joined, bad, unless_refused, join, take_meaning, take_text, ended, ends_at, appended, is_full, after_batch, after_taken, after_fault, step_line, go_on, run_lines, first_place, head_at, run_form, transactions, show_refusal, shown_text, unless_unshown}
+use Rattle.site_model.specs.Openings.{GoesBack, AllGoBack, is_out_of_order, out_of_order_back, first_out_of_order, CanOpen, IsOpenable, IsOpenableSite}
+use Rattle.site_model.specs.Runs.{Collected, ScriptState, Ending, Outcome, goes_on, ends, Taken, nothing, joined, bad, unless_refused, join, take_meaning, take_text, ended, ends_at, appended, is_full, after_batch, after_taken, after_fault, step_line, go_on, run_lines, first_state, head_at, run_form, transactions, show_refusal, shown_text, unless_unshown}
 use Rattle.site_model.specs.Spelled.{AllByRecursion-append}
 use Rattle.site_model.specs.Worlds.{Site, World, unformatted, formatted, with_history}
 
--- where a record stands that is the first stray one
-abbrev pub stray_at : Entry → Table → ℕ → Option ℕ
-stray_at entry table at = if is_stray entry table then Some at else None
+-- where a record stands that is the first out_of_order one
+abbrev pub out_of_order_at : LogEntry → Table → ℕ → Option ℕ
+out_of_order_at entry table at = if is_out_of_order entry table then Some at else None
 
-pub first_stray-push : (past : History) (entry : Entry) → first_stray (past ++ entry ∷ []) ≡ option_or (first_stray past) (stray_at entry (table_of past) (length past))
-first_stray-push past entry =
-    ap stray_back (reverse_push past entry) ∙ ap (λ (n : ℕ). option_or (first_stray past) (stray_at entry (table_of past) n)) (length-reverse past)
+pub first_out_of_order-push : (past : History) (entry : LogEntry) → first_out_of_order (past ++ entry ∷ []) ≡ option_or (first_out_of_order past) (out_of_order_at entry (table_of past) (length past))
+first_out_of_order-push past entry =
+    ap out_of_order_back (reverse_push past entry) ∙ ap (λ (n : ℕ). option_or (first_out_of_order past) (out_of_order_at entry (table_of past) n)) (length-reverse past)
 
 -- one record more
-can_push : (history : History) (entry : Entry) → CanOpen history → GoesBack (length history) entry → is_stray entry (table_of history) ≡ false
+can_push : (history : History) (entry : LogEntry) → CanOpen history → GoesBack (length history) entry → is_out_of_order entry (table_of history) ≡ false
     → CanOpen (history ++ entry ∷ [])
 can_push history entry can goes isnt = record {
   back = subst AllGoBack (sym (reverse_push history entry)) (subst (λ (n : ℕ). GoesBack n entry) (sym (length-reverse history)) goes, can.back);
-  no_stray = first_stray-push history entry
-      ∙ ap (λ (first : Option ℕ). option_or first (stray_at entry (table_of history) (length history))) can.no_stray
+  in_order = first_out_of_order-push history entry
+      ∙ ap (λ (first : Option ℕ). option_or first (out_of_order_at entry (table_of history) (length history))) can.in_order
       ∙ ap (λ (b : Bool). if b then Some (length history) else None) isnt;
 }
 
-not_stray : (time : ℕ) (line : Line) (table : Table) → refusal (entry_of_line time line) table ≡ None → is_stray (entry_of_line time line) table ≡ false
-not_stray time (begin_line txn) table none = ap is_some none
-not_stray time (write_line txn patch) table none = refl
-not_stray time (commit_line txn) table none = refl
-not_stray time (abort_line txn) table none = refl
+is_in_order : (time : ℕ) (line : Line) (table : Table) → refusal (entry_of_line time line) table ≡ None → is_out_of_order (entry_of_line time line) table ≡ false
+is_in_order time (begin_line txn) table none = ap is_some none
+is_in_order time (write_line txn patch) table none = refl
+is_in_order time (commit_line txn) table none = refl
+is_in_order time (abort_line txn) table none = refl
 
 goes_back : (before time : ℕ) (line : Line) → GoesBack before (entry_of_line time line)
 goes_back before time (begin_line txn) = tt
@@ -57,7 +57,7 @@ record Follows (history : History) (c : Collected) : Type 0 where
   opens : CanOpen (history ++ c.batch)
 
 -- a place of a run whose logs, present and passed, can be opened
-record IsOpenPlace (place : Place) : Type 0 where
+record IsOpenState (place : ScriptState) : Type 0 where
   follows : Follows place.history place.collected
   stands : CanOpen place.history
   before : AllByRecursion CanOpen place.passed
@@ -66,7 +66,7 @@ record EndsOpen (ending : Ending) : Type 0 where
   passed : AllByRecursion CanOpen ending.passed
   last : CanOpen ending.last
 
-appended_open : (place : Place) → IsOpenPlace place → IsOpenPlace (appended place)
+appended_open : (place : ScriptState) → IsOpenState place → IsOpenState (appended place)
 appended_open place is =
     let history = place.history ++ place.collected.batch in
     record {
@@ -78,7 +78,7 @@ appended_open place is =
       before = AllByRecursion-append CanOpen place.passed (history ∷ []) is.before (is.follows.opens, tt);
     }
 
-ended_open : (status : Status) (place : Place) → IsOpenPlace place → EndsOpen (ended status place)
+ended_open : (status : Status) (place : ScriptState) → IsOpenState place → EndsOpen (ended status place)
 ended_open status place is = by (length place.collected.batch == 0) (is_full place)
   where
     here : (s : Status) → EndsOpen (ends_at s place)
@@ -94,10 +94,10 @@ ended_open status place is = by (length place.collected.batch == 0) (is_full pla
     by false false = more
 
 abbrev GoesOnOpen : Outcome → Type 0
-GoesOnOpen (goes_on place) = IsOpenPlace place
+GoesOnOpen (goes_on place) = IsOpenState place
 GoesOnOpen (ends ending) = EndsOpen ending
 
-after_batch_open : (place : Place) → IsOpenPlace place → GoesOnOpen (after_batch place)
+after_batch_open : (place : ScriptState) → IsOpenState place → GoesOnOpen (after_batch place)
 after_batch_open place is = by (is_full place)
   where
     by : (full : Bool) → GoesOnOpen (if full then ends (ended Done place) else goes_on (appended place))
@@ -114,7 +114,7 @@ join_open : (moment : ℕ) (history : History) (c : Collected) (line : Line) →
     → TakesOpen history (unless_refused (refusal (entry_of_line (max moment c.time) line) c.table) (join (length history) line (entry_of_line (max moment c.time) line) c))
 join_open moment history c line follows = by (refusal entry c.table) refl
   where
-    entry : Entry
+    entry : LogEntry
     entry = entry_of_line (max moment c.time) line
 
     by : (refused : Option _) → refusal entry c.table ≡ refused → TakesOpen history (unless_refused refused (join (length history) line entry c))
@@ -127,7 +127,7 @@ join_open moment history c line follows = by (refusal entry c.table) refl
           ∙ ap table_of (append_assoc history c.batch (entry ∷ []));
       opens = subst CanOpen (append_assoc history c.batch (entry ∷ []))
           (can_push (history ++ c.batch) entry follows.opens (goes_back (length (history ++ c.batch)) (max moment c.time) line)
-          (not_stray (max moment c.time) line (table_of (history ++ c.batch)) (ap (refusal entry) (sym follows.table) ∙ is)));
+          (is_in_order (max moment c.time) line (table_of (history ++ c.batch)) (ap (refusal entry) (sym follows.table) ∙ is)));
     }
 
 take_open : (moment : ℕ) (history : History) (c : Collected) (meaning : Result (Option Line) Why) → Follows history c → TakesOpen history (take_meaning moment (length history) c meaning)
@@ -135,11 +135,11 @@ take_open moment history c (Err why) follows = tt
 take_open moment history c (Ok None) follows = tt
 take_open moment history c (Ok (Some line)) follows = join_open moment history c line follows
 
-after_taken_open : (place : Place) (taken : Taken) → IsOpenPlace place → TakesOpen place.history taken → GoesOnOpen (after_taken place taken)
+after_taken_open : (place : ScriptState) (taken : Taken) → IsOpenState place → TakesOpen place.history taken → GoesOnOpen (after_taken place taken)
 after_taken_open place nothing is takes = is
 after_taken_open place (joined collected whole) is takes = by whole
   where
-    next : IsOpenPlace (record place { collected = collected })
+    next : IsOpenState (record place { collected = collected })
     next = record { follows = takes; stands = is.stands; before = is.before }
 
     by : (w : Bool) → GoesOnOpen (if w then after_batch (record place { collected = collected }) else goes_on (record place { collected = collected }))
@@ -147,27 +147,27 @@ after_taken_open place (joined collected whole) is takes = by whole
     by false = next
 after_taken_open place (bad why) is takes = ended_open (ScriptFault place.lines why) place is
 
-step_open : (spaces : List Space) (moment : ℕ) (place : Place) (line : Raw) (fault : Option Why) → IsOpenPlace place → GoesOnOpen (after_fault spaces moment place line fault)
+step_open : (spaces : List Space) (moment : ℕ) (place : ScriptState) (line : Raw) (fault : Option Why) → IsOpenState place → GoesOnOpen (after_fault spaces moment place line fault)
 step_open spaces moment place line (Some why) is = ended_open (ScriptFault place.lines why) place is
 step_open spaces moment place line None is =
-    let here : Place = record place { begun = place.begun + length (spelled line) } in
+    let here : ScriptState = record place { begun = place.begun + length (spelled line) } in
     after_taken_open here (take_text spaces moment (length place.history) place.collected line.text)
     (record { follows = is.follows; stands = is.stands; before = is.before })
     (take_open moment place.history place.collected (line_of spaces line.text) is.follows)
 
-run_lines_open : (spaces : List Space) (moment : ℕ) (lines : List Raw) (place : Place) → IsOpenPlace place → EndsOpen (run_lines spaces moment lines place)
+run_lines_open : (spaces : List Space) (moment : ℕ) (lines : List Raw) (place : ScriptState) → IsOpenState place → EndsOpen (run_lines spaces moment lines place)
 run_lines_open spaces moment [] place is = ended_open Done place is
 run_lines_open spaces moment (line ∷ lines) place is =
     by (step_line spaces moment place line)
     (step_open spaces moment (record place { lines = place.lines + 1 }) line (line_fault place.begun line) (record { follows = is.follows; stands = is.stands; before = is.before }))
     (λ next. run_lines_open spaces moment lines next)
   where
-    by : (outcome : Outcome) → GoesOnOpen outcome → ((next : Place) → IsOpenPlace next → EndsOpen (run_lines spaces moment lines next))
+    by : (outcome : Outcome) → GoesOnOpen outcome → ((next : ScriptState) → IsOpenState next → EndsOpen (run_lines spaces moment lines next))
         → EndsOpen (go_on (λ next. run_lines spaces moment lines next) outcome)
     by (goes_on next) on rest = rest next on
     by (ends ending) on rest = on
 
-begins_open : (history : History) → CanOpen history → IsOpenPlace (first_place history)
+begins_open : (history : History) → CanOpen history → IsOpenState (first_state history)
 begins_open history can = record {
   follows = record { table = ap table_of (sym (append-nil history)); opens = subst CanOpen (sym (append-nil history)) can };
   stands = can;
@@ -186,10 +186,10 @@ among_open site (first ∷ others) world open_site all is = ⊎_elim
 pub transactions_open : (moment : ℕ) (site : Site) (script : List ℕ) → IsOpenableSite site → (world : World)
     → IsPassed (formatted site) (transactions moment site script) world → IsOpenable world
 transactions_open moment site script open_site world is =
-    let ends_so = run_lines_open site.head.spaces moment (raw_lines script) (first_place site.history) (begins_open site.history open_site.log) in
+    let ends_so = run_lines_open site.head.spaces moment (raw_lines script) (first_state site.history) (begins_open site.history open_site.log) in
     ⊎_elim
     (λ begin_world. subst IsOpenable (sym begin_world) open_site)
-    (λ there. among_open site (run_lines site.head.spaces moment (raw_lines script) (first_place site.history)).passed world open_site ends_so.passed there)
+    (λ there. among_open site (run_lines site.head.spaces moment (raw_lines script) (first_state site.history)).passed world open_site ends_so.passed there)
     is
 
 -- and so can the last one
@@ -197,7 +197,7 @@ pub transactions_end_open : (moment : ℕ) (site : Site) (script : List ℕ) →
 transactions_end_open moment site script open_site =
     record {
       head = open_site.head;
-      log = (run_lines_open site.head.spaces moment (raw_lines script) (first_place site.history) (begins_open site.history open_site.log)).last;
+      log = (run_lines_open site.head.spaces moment (raw_lines script) (first_state site.history) (begins_open site.history open_site.log)).last;
     }
 
 -- what `-init` says is the head of a site
@@ -220,7 +220,7 @@ pub run_form_open : (moment : ℕ) (world : World) (script : List ℕ) (form : C
     → (other : World) → IsPassed world (run_form moment world script form) other → IsOpenable other
 run_form_open moment unformatted script (init_form blocks spaces) head opens other is = ⊎_elim
     (λ begin_world. subst IsOpenable (sym begin_world) tt)
-    (λ there. ⊎_elim (λ made. subst IsOpenable (sym made) (record { head = head; log = record { back = tt; no_stray = refl } })) (λ none. absurd none) there)
+    (λ there. ⊎_elim (λ made. subst IsOpenable (sym made) (record { head = head; log = record { back = tt; in_order = refl } })) (λ none. absurd none) there)
     is
 run_form_open moment (formatted site) script (init_form blocks spaces) head opens other is =
     ⊎_elim (λ begin_world. subst IsOpenable (sym begin_world) opens) (λ none. absurd none) is
@@ -235,7 +235,7 @@ run_form_open moment (formatted site) script (show_form name page) head opens ot
 -- and so can the last one
 pub run_form_end_open : (moment : ℕ) (world : World) (script : List ℕ) (form : CommandForm) → MakesAHead moment form → IsOpenable world
     → IsOpenable (run_form moment world script form).last
-run_form_end_open moment unformatted script (init_form blocks spaces) head opens = record { head = head; log = record { back = tt; no_stray = refl } }
+run_form_end_open moment unformatted script (init_form blocks spaces) head opens = record { head = head; log = record { back = tt; in_order = refl } }
 run_form_end_open moment (formatted site) script (init_form blocks spaces) head opens = opens
 run_form_end_open moment unformatted script transactions_form head opens = opens
 run_form_end_open moment (formatted site) script transactions_form head opens = transactions_end_open moment site script opens

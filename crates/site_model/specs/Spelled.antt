@@ -6,7 +6,7 @@ use Rattle.std.proofs.lemmas.List.{take_at, drop_at, take-append-drop, length-ta
 use Rattle.std.proofs.lemmas.List.Concat.{flat_map-append}
 use Rattle.site_disk.specs.Bytes.{extent}
 use Rattle.site_disk.specs.BytesLaws.{extent-extent}
-use Rattle.log_history.specs.History.{Entry, History}
+use Rattle.log_history.specs.History.{LogEntry, History}
 use Rattle.log_record.specs.Layout.{IsRecord, spelling}
 use Rattle.log_record.specs.LayoutLaws.{length-spelling}
 
@@ -25,7 +25,7 @@ length-spelled (entry ∷ others) all =
 
 -- the first of the records that are spelled in some bytes, and what is left
 pub record FirstSpelled (history : History) (bytes : List ℕ) : Type 0 where
-  pub first : Entry
+  pub first : LogEntry
   pub others : History
   pub splits : history ≡ first ∷ others
   pub is_record : IsRecord first

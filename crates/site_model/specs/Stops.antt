@@ -7,7 +7,7 @@ use Rattle.site_model.specs.declared.disk_name.DiskName.{DiskName}
 use Rattle.site_model.specs.declared.disk_name.DiskName.TheVariants.{Cat, Spare, Boot, Log, Volume, Chunk}
 use Rattle.site_model.specs.Worlds.{World, IsFit}
 use Rattle.site_model.specs.Layouts.{Shows}
-use Rattle.site_model.specs.Runs.{Run}
+use Rattle.site_model.specs.Runs.{CommandResult}
 use Rattle.site_model.specs.Steps.{ImagesOf, Passes}
 use Rattle.site_model.specs.Commands.{IsPassed, IsSound, frame_of}
 
@@ -29,7 +29,7 @@ pub record Scene : Type 1 where
   pub contents : DiskName → List ℕ
   pub rests : DiskName → Type 0
   pub begin : World
-  pub run : Run
+  pub run : CommandResult
 
 -- some fit world at entry has this part on a disk
 abbrev pub ShowedAtEntry : Scene → DiskName → List ℕ → Type 0

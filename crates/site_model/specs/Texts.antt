@@ -1,7 +1,7 @@
 -- The texts that `onbar` prints. Every line ends with a line feed; numbers are decimal.
 use Rattle.std.specs.Prelude.{ℕ, List, [], ◌∷◌, ◌++◌, length, drop, count_by, Bool, true, false, codes, if◌then◌else◌, nat_lt}
 use Rattle.std.specs.Fmt.{decimal}
-use Rattle.log_history.specs.History.{Entry, History, commit}
+use Rattle.log_history.specs.History.{LogEntry, History, commit}
 use Rattle.onbar_grammar.specs.Script.{Space}
 use Rattle.onbar_grammar.specs.declared.Why.{Why}
 use Rattle.onbar_grammar.specs.declared.Why.TheVariants.{Words, NoSpace, NoPage, Range, AlreadyOpen, NotOpen, TooManyOpen, TooLong, ScriptTooLong, OutOfMemory as NoMemory}
@@ -15,7 +15,7 @@ use Rattle.site_model.specs.declared.status.Status.TheVariants.{Ok as Done, Usag
 abbrev pub line : List ℕ → List ℕ
 line text = text ++ 10 ∷ []
 
-abbrev pub is_commit_entry : Entry → Bool
+abbrev pub is_commit_entry : LogEntry → Bool
 is_commit_entry (commit txn time) = true
 is_commit_entry entry = false
 

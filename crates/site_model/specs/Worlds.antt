@@ -1,8 +1,7 @@
 -- The worlds of a site: what its disks stand for.
-use Rattle.std.specs.Prelude.{◌≡◌, ℕ, ◌<◌, List, [], slice_get, Option, Some, None, nat_lt, if◌then◌else◌}
+use Rattle.std.specs.Prelude.{◌≡◌, ◌<◌, List, [], slice_get, Some}
 use Rattle.std.specs.List.{AllByRecursion}
-use Rattle.log_history.specs.History.{Entry, History, write}
-use Rattle.log_history.specs.Effects.{Page, page_at}
+use Rattle.log_history.specs.History.{LogEntry, History, write}
 use Rattle.log_history.specs.Transactions.{InOrder}
 use Rattle.onbar_grammar.specs.Script.{Space}
 use Rattle.site_headers.specs.Heads.{Head, IsHead}
@@ -25,7 +24,7 @@ abbrev pub with_history : Site → History → World
 with_history site history = formatted (record site { history = history })
 
 -- a Write is into a space of the site and a page that it has
-abbrev pub IsWithin : List Space → Entry → Type 0
+abbrev pub IsWithin : List Space → LogEntry → Type 0
 IsWithin spaces (write txn patch) = (space : Space) × (slice_get spaces patch.space ≡ Some space) × (patch.page < space.pages)
 IsWithin spaces entry = Unit {0}
 
@@ -38,11 +37,3 @@ pub record IsFitSite (site : Site) : Type 0 where
 abbrev pub IsFit : World → Type 0
 IsFit unformatted = Unit {0}
 IsFit (formatted site) = IsFitSite site
-
-abbrev pub unless_past : ℕ → Page → Option Space → Option Page
-unless_past number page None = None
-unless_past number page (Some space) = if nat_lt number space.pages then Some page else None
-
--- the page of a space at a position; none where the site has no such page
-abbrev pub page_of_site : Site → ℕ → ℕ → ℕ → Option Page
-page_of_site site n space number = unless_past number (page_at site.history n space number) (slice_get site.head.spaces space)

@@ -11,5 +11,5 @@ mod status;
 
 pub use disk_name::DiskName;
 pub use lacking::{Lacking, LackingList, What};
-pub use laws::{Staged, runs_stay_open, stops_are_listed};
-pub use status::{LogFull, Status};
+pub use laws::runs_stay_open;
+pub use status::{LogFull, Status, exit_status};

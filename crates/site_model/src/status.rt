@@ -1,4 +1,7 @@
 // How a command of `onbar` ends.
+ghost use Rattle.std.specs.Prelude.{◌≡◌};
+ghost use Rattle.site_model.specs.Exits.{status_number};
+
 use crate::{DiskName, LackingList};
 use bsa_descriptor::Text;
 use onbar_grammar::Why;
@@ -46,4 +49,36 @@ pub enum Status {
     CatalogueFull,
     BootFull,
     TooManyObjects,
+}
+
+/// The exit status of a command, from 0 to 23.
+pub fn exit_status(status: &Status) -> u8
+    ensures { result ≡ status_number status.now }
+{
+    match status {
+        Status::Ok => 0,
+        Status::OutOfMemory => 1,
+        Status::ReadFault => 2,
+        Status::WriteFault => 3,
+        Status::DiskFault(_) => 4,
+        Status::Usage(_) => 5,
+        Status::ScriptFault { line: _, why: _ } => 6,
+        Status::NotFormatted => 7,
+        Status::AlreadyFormatted => 8,
+        Status::BadRecord { disk: _, slot: _ } => 9,
+        Status::NoSuchSpace(_) => 10,
+        Status::NoSuchCopy(_) => 11,
+        Status::NoSuchPage(_) => 12,
+        Status::NoSuchLog(_) => 13,
+        Status::NeedsRestart(_) => 14,
+        Status::NothingToRestart => 15,
+        Status::ChunkLost(_) => 16,
+        Status::LogLost => 17,
+        Status::Refused(_) => 18,
+        Status::LogFull(_) => 19,
+        Status::StoreFull(_) => 20,
+        Status::CatalogueFull => 21,
+        Status::BootFull => 22,
+        Status::TooManyObjects => 23,
+    }
 }

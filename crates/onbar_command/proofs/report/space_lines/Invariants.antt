@@ -1,6 +1,6 @@
 use Rattle.std.proofs.Common.{◌≡◌, string_bytes, take}
 use Rattle.std.specs.List.{flat_map}
-use Rattle.onbar_words.specs.SpaceHead.{spaces_of}
+use Rattle.site_headers.specs.Views.{spaces_of}
 use Rattle.site_model.specs.Texts.{space_text}
 use Rattle.onbar_command.proofs.report.space_lines.Given as goal
 

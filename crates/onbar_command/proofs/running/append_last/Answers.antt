@@ -14,8 +14,8 @@ use Rattle.onbar_command.specs.declared.transactions.Stop.{Stop}
 use Rattle.onbar_command.specs.declared.transactions.Stop.TheVariants.{Full, DiskFault}
 use Rattle.onbar_command.specs.Ends.{LastEnds}
 use Rattle.onbar_command.specs.Scripts.{place_at}
-use Rattle.onbar_command.specs.Turns.{stands_at}
-use Rattle.onbar_command.proofs.TurnLemmas.{count_by-append, ready_again, ended_full, ended_none, ended_fits, holds_either}
+use Rattle.onbar_command.specs.ScriptSteps.{stands_at}
+use Rattle.onbar_command.proofs.StepLemmas.{count_by-append, ready_again, ended_full, ended_none, ended_fits, holds_either}
 use Rattle.onbar_command.proofs.running.append_last.Goals as goal
 
 none_of : {A : Type 0} (xs : List A) (n : ℕ) (empty : Bool) → n ≡ length xs → empty ≡ (n == 0) → empty ≡ true → length xs ≡ 0

@@ -1,13 +1,13 @@
 use Rattle.std.proofs.Common.{◌≡◌, ◌∙◌, ◌++◌, [], ℕ, List, sym, ap, subst, arith}
-use Rattle.onbar_words.specs.Cutting.{LinesView}
-use Rattle.onbar_words.specs.SpaceHead.{spaces_of}
+use Rattle.script_lines.specs.Cutting.{LinesView}
+use Rattle.site_headers.specs.Views.{spaces_of}
 use Rattle.site_model.specs.declared.status.Status.TheVariants.{Ok as Done, ScriptFault}
 use Rattle.onbar_command.specs.declared.transactions.Work.{Work}
 use Rattle.onbar_command.specs.declared.transactions.Stop.{Stop}
 use Rattle.onbar_command.specs.declared.transactions.Stop.TheVariants.{End, Fault}
 use Rattle.onbar_command.specs.Ends.{LinesEnd, RunDone, RunEnds}
 use Rattle.onbar_command.specs.Scripts.{run_text}
-use Rattle.onbar_command.specs.Turns.{stands_at}
+use Rattle.onbar_command.specs.ScriptSteps.{stands_at}
 use Rattle.onbar_command.proofs.EndLemmas.{last_ends, others_end, some_is}
 use Rattle.onbar_command.proofs.running.run_script.Goals as goal
 
@@ -94,6 +94,7 @@ returns-in_default g c =
     record {
       ended = λ tells_disk tells_source site between. others_end site _ _ c.take_lines.new.work c.args.era.now.number _ _ _ _ c.take_lines.result
           c.in_default.not-End c.in_default.not-Fault (lines.ended tells_disk tells_source site between);
+      at_end = λ tells is. absurd (c.in_default.not-End is);
       era = omega (arith, lines.era);
       era_later = lines.era_later;
       key = lines.key;

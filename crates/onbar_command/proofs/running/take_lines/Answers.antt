@@ -1,5 +1,5 @@
 use Rattle.std.proofs.Common.{◌∙◌, [], ◌++◌, refl, ap, subst, arith}
-use Rattle.onbar_words.specs.SpaceHead.{spaces_of}
+use Rattle.site_headers.specs.Views.{spaces_of}
 use Rattle.onbar_command.proofs.LinesLemmas.{starts, goes_further, front_again, lines_end}
 use Rattle.onbar_command.proofs.running.take_lines.Goals as goal
 
@@ -50,7 +50,7 @@ lines-preserved g c =
       };
       way = λ tells_disk tells_source site between.
           let way = c.lines.invariant.way tells_disk tells_source site between in
-          let goes = call.turned tells_disk tells_source site way.added way.passed way.holds.between in
+          let goes = call.stepped tells_disk tells_source site way.added way.passed way.holds.between in
           let further = goes_further site way.added way.passed c.args.era.now.number c.lines.era.number _ _ _ before.era_later _ _ _ way.holds _ _ _ _ _ goes in
           record { added = further.added; passed = further.passed; holds = further.holds; is = way.is ∙ further.is };
       written = λ tells_disk tells_source site between.
@@ -77,8 +77,8 @@ returns-in-Some-clause-ended g c tells_disk tells_source site between =
     let way = c.lines.invariant.way tells_disk tells_source site between in
     let value = call.value refl in
     lines_end (spaces_of c.args.spaces.now) c.args.moment site way.added way.passed (c.lines.work.progress.lines.held ++ g.S.Source.left c.lines.source)
-    (c.turn.new.work.progress.lines.held ++ g.S.Source.left c.turn.new.source) c.lines.work c.turn.new.work c.args.era.now.number c.lines.era.number _ _ _ _ _ _ _ _ before.era_later
-    way.holds way.is value.0 value.1 c.in-Some.stop (call.turned tells_disk tells_source site way.added way.passed way.holds.between)
+    (c.take_step.new.work.progress.lines.held ++ g.S.Source.left c.take_step.new.source) c.lines.work c.take_step.new.work c.args.era.now.number c.lines.era.number _ _ _ _ _ _ _ _ before.era_later
+    way.holds way.is value.0 value.1 c.in-Some.stop (call.stepped tells_disk tells_source site way.added way.passed way.holds.between)
     (λ quiet.
     let same = call.quiet quiet in
     (ap (λ log. (g.D.Disk.ledger log).last) same, ap (λ log. g.D.Disk.bytes log) same, λ f image is. subst (λ log. g.D.Disk.image log f image) same is))

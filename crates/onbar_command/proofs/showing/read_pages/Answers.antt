@@ -13,8 +13,8 @@ returns-then-is_empty-clause-pages g c tells site same opens holds =
     let once = c.in_ok-state.ensures in
     handed_pages c.in_ok-state.state.view (has_view c.in_ok-begun.begun c.in_ok-state.state.view once.same) c.pages_in.result c.pages_in.ensures
     (pages_at_end site.history c.args.stretch)
-    (read_once site.history c.args.stretch c.in_ok-begun.begun c.in_ok-state.state begun.pages opens.no_stray (once.state tells site same opens holds) once.same
-    (begun.turns.0 ∙ c.new.ensures) begun.turns.1 once.end (c.if-is_empty.ensures.0 refl))
+    (read_once site.history c.args.stretch c.in_ok-begun.begun c.in_ok-state.state begun.pages opens.in_order (once.state tells site same opens holds) once.same
+    (begun.reset_points.0 ∙ c.new.ensures) begun.reset_points.1 once.end (c.if-is_empty.ensures.0 refl))
 
 pub returns-in_err-reread-clause-refused : goal.returns-in_err-reread-clause-refused
 returns-in_err-reread-clause-refused g c tells =
@@ -36,5 +36,5 @@ returns-clause-pages g c tells site same opens holds =
     let first_state = once.state tells site same opens holds in
     handed_pages c.in_ok-reread.reread.view (has_view c.in_ok-again.again c.in_ok-reread.reread.view twice.same) c.pages_in-2.result c.pages_in-2.ensures
     (pages_at_end site.history c.args.stretch)
-    (read_again site.history c.args.stretch c.in_ok-again.again c.in_ok-reread.reread again.pages opens.no_stray (twice.state tells site same opens there) twice.same
-    (again.turns.0 ∙ first_state.turns) (again.turns.1 ∙ first_state.end))
+    (read_again site.history c.args.stretch c.in_ok-again.again c.in_ok-reread.reread again.pages opens.in_order (twice.state tells site same opens there) twice.same
+    (again.reset_points.0 ∙ first_state.reset_points) (again.reset_points.1 ∙ first_state.end))

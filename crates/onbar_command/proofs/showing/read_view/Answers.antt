@@ -34,8 +34,8 @@ returns-in-Err-clause-images g c =
 pub returns-in-Err-clause-cut : goal.returns-in-Err-clause-cut
 returns-in-Err-clause-cut g c tells site same opens holds =
     let came = subst (λ (n : ℕ). IsDeviceOrMemory c.in-Err.fault ⊎ LogRefuses n (g.D.Disk.bytes c.args.log.now) (log_status c.in-Err.fault)) (sym same) (c.in-Err.ensures.refused tells) in
-    rw c.log_status.ensures (cuts_short c.in-Err.fault (not_refused site _ c.in-Err.fault holds opens came))
+    rw c.log_status.ensures.told (cuts_short c.in-Err.fault (not_refused site _ c.in-Err.fault holds opens came))
 
 pub returns-in-Err-clause-kept : goal.returns-in-Err-clause-kept
 returns-in-Err-clause-kept g c =
-    rw c.log_status.ensures (⊎_elim (λ is. inl (cuts_short c.in-Err.fault is)) (λ same. inr same) c.in-Err.ensures.kept)
+    rw c.log_status.ensures.told (⊎_elim (λ is. inl (cuts_short c.in-Err.fault is)) (λ same. inr same) c.in-Err.ensures.kept)

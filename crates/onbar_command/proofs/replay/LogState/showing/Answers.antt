@@ -5,8 +5,8 @@ pub returns-clause-state : goal.returns-clause-state
 returns-clause-state c = record {
   end = c.new.ensures.state.end;
   time = c.new.ensures.state.time;
-  stray = c.new.ensures.state.stray;
+  out_of_order = c.new.ensures.state.out_of_order;
   table = c.new.ensures.state.table;
-  turns = c.new.ensures.state.turns;
+  reset_points = c.new.ensures.state.reset_points;
   view = λ none. shows_empty c.args.view c.requires;
 }

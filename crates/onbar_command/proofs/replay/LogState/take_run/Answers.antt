@@ -19,9 +19,9 @@ loop-slot-preserved c = record {
       (record {
         end = c.in_ok-take.ensures.end;
         time = c.in_ok-take.ensures.time;
-        stray = c.in_ok-take.ensures.stray;
+        out_of_order = c.in_ok-take.ensures.out_of_order;
         table = c.in_ok-take.ensures.table;
-        turns = c.in_ok-take.ensures.turns;
+        reset_points = c.in_ok-take.ensures.reset_points;
         view = c.in_ok-take.ensures.view;
       });
 }

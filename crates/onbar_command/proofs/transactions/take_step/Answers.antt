@@ -3,8 +3,8 @@ use Rattle.std.proofs.lemmas.List.{length-map}
 use Rattle.std.proofs.lemmas.Bool.{cases_lt}
 use Rattle.log_history.specs.History.{History}
 use Rattle.log_record.specs.Entry.{entry_of, history_of}
-use Rattle.onbar_words.specs.SpaceHead.{spaces_of}
-use Rattle.onbar_words.specs.Cutting.{LinesView}
+use Rattle.site_headers.specs.Views.{spaces_of}
+use Rattle.script_lines.specs.Cutting.{LinesView}
 use Rattle.site_model.specs.declared.status.Status.TheVariants.{LogFull}
 use Rattle.site_model.specs.declared.status.LogFull.TheVariants.{Positions}
 use Rattle.onbar_command.specs.declared.transactions.Work.{Work}
@@ -13,19 +13,19 @@ use Rattle.onbar_command.specs.declared.transactions.Stop.TheVariants.{Full, Dis
 use Rattle.std.proofs.Common.{ℕ, Some, Err}
 use Rattle.std.specs.List.{count_by}
 use Rattle.site_model.specs.LogLaws.{extended}
-use Rattle.site_model.specs.Runs.{Place, Ending, ends_at}
+use Rattle.site_model.specs.Runs.{ScriptState, Ending, ends_at}
 use Rattle.site_model.specs.Texts.{is_commit_entry}
 use Rattle.onbar_command.specs.Scripts.{place_at, run_text}
-use Rattle.onbar_command.specs.Turns.{Turns}
-use Rattle.onbar_command.proofs.TurnLemmas.{count_by-append, ready_again, goes_behind, ends_full, appended_is, holds_either}
-use Rattle.onbar_command.proofs.transactions.turn.Goals as goal
+use Rattle.onbar_command.specs.ScriptSteps.{TakesStep}
+use Rattle.onbar_command.proofs.StepLemmas.{count_by-append, ready_again, goes_behind, ends_full, appended_is, holds_either}
+use Rattle.onbar_command.proofs.transactions.take_step.Goals as goal
 
-pub returns-in-End-clause-turned : goal.returns-in-End-clause-turned
-returns-in-End-clause-turned g c tells_disk tells_source site added passed between =
+pub returns-in-End-clause-stepped : goal.returns-in-End-clause-stepped
+returns-in-End-clause-stepped g c tells_disk tells_source site added passed between =
     c.in-End.ensures.steps tells_source (site.history ++ added) passed (sym between.ready.used ∙ sym c.used-end.ensures.used)
 
-pub returns-in-More-clause-turned : goal.returns-in-More-clause-turned
-returns-in-More-clause-turned g c tells_disk tells_source site added passed between = record {
+pub returns-in-More-clause-stepped : goal.returns-in-More-clause-stepped
+returns-in-More-clause-stepped g c tells_disk tells_source site added passed between = record {
   next = added;
   next_passed = passed;
   grows = inl (refl, refl);
@@ -34,13 +34,13 @@ returns-in-More-clause-turned g c tells_disk tells_source site added passed betw
   images = λ f image is. inl is;
 }
 
-pub returns-in-Ok-clause-turned : goal.returns-in-Ok-clause-turned
-returns-in-Ok-clause-turned g c tells_disk tells_source site added passed between =
+pub returns-in-Ok-clause-stepped : goal.returns-in-Ok-clause-stepped
+returns-in-Ok-clause-stepped g c tells_disk tells_source site added passed between =
     let call = c.in-Ok.ensures in
     let progress = c.take_next_line.new.progress in
     let batch = history_of progress.collected.batch.items in
     let history = site.history ++ added in
-    let run : Place → Ending = run_text (spaces_of c.args.spaces.now) c.args.moment (progress.lines.held ++ g.S.Source.left c.take_next_line.new.source) in
+    let run : ScriptState → Ending = run_text (spaces_of c.args.spaces.now) c.args.moment (progress.lines.held ++ g.S.Source.left c.take_next_line.new.source) in
     let counted : length batch ≡ length progress.collected.batch.items = length-map progress.collected.batch.items entry_of in
     let fits : length history + length batch ≤ 65536 = elim (cases_lt 65536 (c.args.work.now.slots.used + length progress.collected.batch.items)) [
       | inl over ↦ let not_ok = call.full over in absurd (cc)
@@ -67,8 +67,8 @@ returns-in-Ok-clause-turned g c tells_disk tells_source site added passed betwee
           c.append_collected.new.era.number call.era (call.crash tells_disk (extended site added) between.ready);
     }
 
-pub returns-in-Err-clause-turned : goal.returns-in-Err-clause-turned
-returns-in-Err-clause-turned g c tells_disk tells_source site added passed between =
+pub returns-in-Err-clause-stepped : goal.returns-in-Err-clause-stepped
+returns-in-Err-clause-stepped g c tells_disk tells_source site added passed between =
     let call = c.in-Err.ensures in
     let progress = c.take_next_line.new.progress in
     let batch = history_of progress.collected.batch.items in
@@ -76,10 +76,10 @@ returns-in-Err-clause-turned g c tells_disk tells_source site added passed betwe
     let left = g.S.Source.left c.take_next_line.new.source in
     let mid : Work = record { slots = c.args.work.now.slots; progress = progress; counts = c.args.work.now.counts } in
     let place = place_at progress history passed in
-    let run : Place → Ending = run_text (spaces_of c.args.spaces.now) c.args.moment (progress.lines.held ++ left) in
+    let run : ScriptState → Ending = run_text (spaces_of c.args.spaces.now) c.args.moment (progress.lines.held ++ left) in
     let counted : length batch ≡ length progress.collected.batch.items = length-map progress.collected.batch.items entry_of in
     let stepped = c.in-Whole.ensures.steps tells_source history passed (sym between.ready.used ∙ sym c.used-end.ensures.used) in
-    let Comes : Work → Stop → Type 0 = λ work stop. Turns (spaces_of c.args.spaces.now) c.args.moment site added passed
+    let Comes : Work → Stop → Type 0 = λ work stop. TakesStep (spaces_of c.args.spaces.now) c.args.moment site added passed
     (c.args.work.now.progress.lines.held ++ g.S.Source.left c.args.source.now) (work.progress.lines.held ++ left) c.args.work.now work
     (g.D.Disk.ledger c.append_collected.new.log).last (g.D.Disk.bytes c.append_collected.new.log) c.args.era.now.number
     (g.D.Disk.image c.args.log.now) (g.D.Disk.image c.append_collected.new.log) (Some stop) in
