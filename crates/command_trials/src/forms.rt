@@ -7,33 +7,40 @@ use site_disk::{Era, MemDisk};
 use site_headers::read_catalogue_header;
 use std::alloc::Global;
 use std::test::Fail;
-use trial_site::{INIT, NOTHING, Step, Trouble, WRITTEN, catalogue, command, empty_log, run_steps};
+use trial_site::{
+    Disks, INIT, NOTHING, Step, Trouble, WRITTEN, catalogue, command, empty_log, run_steps,
+};
+
+// Words, and the number of the first that is refused.
+static REFUSED: [(&str, u32); 10] = [
+    ("", 1),
+    ("-X", 1),
+    ("-T x", 2),
+    ("-t -T", 1),
+    ("-r -t", 1),
+    ("-init", 2),
+    ("-init A:0", 2),
+    ("-D", 2),
+    ("-j 2 -D A x", 5),
+    ("-D A 4294967296", 3),
+];
 
 #[test]
 fn refused_words_touch_no_disk(rt: HostRuntime) -> Result<(), Fail> {
     let alloc = rt.alloc();
-    let log = empty_log(alloc)?;
-    for (words, at) in [
-        ([].as_slice(), 1),
-        (&["-X"], 1),
-        (&["-T", "x"], 2),
-        (&["-t", "-T"], 1),
-        (&["-r", "-t"], 1),
-        (&["-init"], 2),
-        (&["-init", "A:0"], 2),
-        (&["-D"], 2),
-        (&["-j", "2", "-D", "A", "x"], 5),
-        (&["-D", "A", "4294967296"], 3),
-    ] {
-        assert!(rt; words.len() < 100);
-        let trouble = Trouble::Stops(0, 0);
-        let ended = command(&rt, alloc, words, &catalogue(), &log, trouble, b"begin 1\n")?;
+    let (cat, log) = (catalogue(), empty_log(alloc)?);
+    let disks = Disks {
+        cat: &cat,
+        log: &log,
+        trouble: Trouble::Stops(0, 0),
+        crash: None,
+    };
+    for (words, at) in REFUSED {
+        let ended = command(&rt, alloc, words, disks, b"begin 1\n")?;
         let text = format!(in alloc; "usage at word {at}\n")?;
         let status = format!(in alloc; "Usage({at})")?;
-        assert!(rt; ended.is(text.as_str(), status.as_str()), "{at}");
-        assert_eq!(rt; ended.disks.log.planned(), 0);
-        assert_eq!(rt; ended.disks.cat.bytes_read(), 0);
-        assert_eq!(rt; ended.disks.cat.bytes_written(), 0);
+        assert!(rt; ended.is(text.as_str(), status.as_str()), "{words}");
+        assert!(rt; ended.is_untouched, "{words}");
     }
     Ok(())
 }
@@ -81,7 +88,7 @@ fn formatted_page(spaces: &[u8; 48], count: u8) -> [u8; 4096] {
 fn a_site_is_formatted_once(rt: HostRuntime) -> Result<(), Fail> {
     let alloc = rt.alloc();
     let again = Step {
-        words: &["-init", "A:4"],
+        words: "-init A:4",
         script: "",
         text: "already formatted\n",
         status: "AlreadyFormatted",
@@ -92,7 +99,7 @@ fn a_site_is_formatted_once(rt: HostRuntime) -> Result<(), Fail> {
     spaces[0] = b'A';
     spaces[23] = 4;
     let page = formatted_page(&spaces, 1);
-    assert_eq!(rt; left.disks.cat.bytes(), page.as_slice());
+    assert_eq!(rt; left.cat.as_slice(), page.as_slice());
     Ok(())
 }
 
@@ -100,7 +107,7 @@ fn a_site_is_formatted_once(rt: HostRuntime) -> Result<(), Fail> {
 fn a_site_of_two_spaces_is_formatted(rt: HostRuntime) -> Result<(), Fail> {
     let alloc = rt.alloc();
     let larger = Step {
-        words: &["-j", "3", "-init", "-k", "2", "A:4", "B:65536"],
+        words: "-j 3 -init -k 2 A:4 B:65536",
         script: "",
         text: "space A pages 4\nspace B pages 65536\nok\n",
         status: "Ok",
@@ -115,6 +122,6 @@ fn a_site_of_two_spaces_is_formatted(rt: HostRuntime) -> Result<(), Fail> {
     let mut page = formatted_page(&spaces, 2);
     page[25] = 0;
     page[27] = 2;
-    assert_eq!(rt; left.disks.cat.bytes(), page.as_slice());
+    assert_eq!(rt; left.cat.as_slice(), page.as_slice());
     Ok(())
 }

@@ -1,8 +1,9 @@
 // Disks of random bytes, and good ones with one byte raised.
+use site_disk::OutOfMemory;
 use std::alloc::{AllocError, Global};
 use std::test::Fail;
 use std::thread::Threads;
-use trial_site::{INIT, Trouble, WRITTEN, catalogue, command, empty_log, run_steps};
+use trial_site::{Disks, Ended, INIT, WRITTEN, catalogue, command, empty_log, run_steps};
 
 /// The next number of a linear congruential generator.
 fn next_number(seed: &mut u64) -> usize {
@@ -12,34 +13,30 @@ fn next_number(seed: &mut u64) -> usize {
     (*seed >> 33) as usize
 }
 
+/// Whether a log's state is one that `-T` tells over any bytes.
+fn tells_state(ended: &Ended) -> bool {
+    ended.is("log lost\n", "LogLost")
+        || ended.text.starts_with(b"bad record in log at slot ")
+        || ended.text.starts_with(b"lines 0 commits 0 end ")
+}
+
 /// Whether `-init` and `-T` end over these disks as they may over any, and keep those that they refuse.
 fn ends_well<R: Threads + Sync>(
     rt: &R,
     alloc: Global,
     cat: &[u8],
     log: &[u8],
-) -> Result<bool, AllocError> {
-    let made = command(
-        rt,
-        alloc,
-        &["-init", "A:4"],
-        cat,
-        log,
-        Trouble::Nothing,
-        b"",
-    )?;
-    let ended = command(rt, alloc, &["-T"], cat, log, Trouble::Nothing, b"")?;
-    if ended.disks.cat.bytes() != cat || ended.disks.log.bytes() != log {
+) -> Result<bool, OutOfMemory> {
+    let made = command(rt, alloc, "-init A:4", Disks::of(cat, log), b"")?;
+    let ended = command(rt, alloc, "-T", Disks::of(cat, log), b"")?;
+    if !ended.leaves(cat, log) {
         return Ok(false);
     }
     if made.is(INIT.text, "Ok") {
         return Ok(ended.is("not formatted\n", "NotFormatted"));
     }
-    let kept = made.disks.cat.bytes() == cat && made.disks.log.bytes() == log;
-    let told = ended.is("log lost\n", "LogLost")
-        || ended.text.starts_with(b"bad record in log at slot ")
-        || ended.text.starts_with(b"lines 0 commits 0 end ");
-    Ok(kept && told && made.is("already formatted\n", "AlreadyFormatted"))
+    let is_refused = made.is("already formatted\n", "AlreadyFormatted");
+    Ok(is_refused && made.leaves(cat, log) && tells_state(&ended))
 }
 
 /// Bytes of a generator.
@@ -101,8 +98,8 @@ fn a_raised_byte_is_told(rt: HostRuntime) -> Result<(), Fail> {
     let whole = run_steps(&rt, alloc, &[INIT, WRITTEN])?.ok_or("another end")?;
     let mut seed = 8;
     for round in 0..200 {
-        let mut cat = Vec::from_slice(alloc, whole.disks.cat.bytes())?;
-        let mut log = Vec::from_slice(alloc, whole.disks.log.bytes())?;
+        let mut cat = Vec::from_slice(alloc, &whole.cat)?;
+        let mut log = Vec::from_slice(alloc, &whole.log)?;
         raise_byte(&mut cat, &mut log, round, next_number(&mut seed))?;
         assert!(rt; ends_well(&rt, alloc, &cat, &log)?, "round {round}");
     }

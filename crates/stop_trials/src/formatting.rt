@@ -1,27 +1,18 @@
 // A site whose disks stop while it is formatted.
-use site_disk::Choice;
-use std::alloc::{AllocError, Global};
+use site_disk::OutOfMemory;
+use std::alloc::Global;
 use std::test::Fail;
 use std::thread::Threads;
-use trial_site::{Ended, Trouble, command};
+use trial_site::{Disks, Trouble, command};
 
 /// What the next commands tell of disks: that the site is blank, or that it is whole.
 fn is_whole<R: Threads + Sync>(
     rt: &R,
     alloc: Global,
-    cat: &[u8],
-    log: &[u8],
-) -> Result<Option<bool>, AllocError> {
-    let ended = command(rt, alloc, &["-T"], cat, log, Trouble::Nothing, b"")?;
-    let next = command(
-        rt,
-        alloc,
-        &["-init", "A:4"],
-        cat,
-        log,
-        Trouble::Nothing,
-        b"",
-    )?;
+    disks: Disks<'_>,
+) -> Result<Option<bool>, OutOfMemory> {
+    let ended = command(rt, alloc, "-T", disks, b"")?;
+    let next = command(rt, alloc, "-init A:4", disks, b"")?;
     if ended.is("not formatted\n", "NotFormatted") && next.is("space A pages 4\nok\n", "Ok") {
         return Ok(Some(false));
     }
@@ -40,21 +31,16 @@ fn stopped<R: Threads + Sync>(
     alloc: Global,
     trouble: Trouble,
     seed: u64,
-) -> Result<(bool, Option<bool>), Fail> {
-    let Ended {
-        status,
-        text,
-        disks,
-        era,
-    } = command(rt, alloc, &["-init", "A:4"], &[], &[], trouble, b"")?;
-    let choice = Choice {
-        calls: u64::MAX,
-        seed,
+) -> Result<(bool, Option<bool>), OutOfMemory> {
+    let disks = Disks {
+        cat: &[],
+        log: &[],
+        trouble,
+        crash: Some(seed),
     };
-    let cat = disks.cat.crash(&era, &choice)?;
-    let log = disks.log.crash(&era, &choice)?;
-    let cut = status.as_str() != "Ok" && text.is_empty();
-    Ok((cut, is_whole(rt, alloc, cat.bytes(), log.bytes())?))
+    let left = command(rt, alloc, "-init A:4", disks, b"")?;
+    let cut = left.status.as_str() != "Ok" && left.text.is_empty();
+    Ok((cut, is_whole(rt, alloc, Disks::of(&left.cat, &left.log))?))
 }
 
 /// The log is formatted first: where its disk stops, the site is blank.

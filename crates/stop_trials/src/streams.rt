@@ -1,9 +1,9 @@
 // Scripts and sinks that break off.
 ghost use Rattle.std.specs.Prelude.{◌≡◌, [], false};
 
-use site_disk::{Era, Failed, MemSink, MemSource, Sink, Source};
+use site_disk::{Failed, MemSink, MemSource, Sink, Source};
 use std::test::Fail;
-use trial_site::{Trouble, begins, catalogue, empty_log, end_of, run, site_of};
+use trial_site::{Disks, begins, catalogue, empty_log, end_of, run};
 
 /// A script that comes byte by byte, and fails behind its last.
 #[derive(Drop)]
@@ -13,7 +13,7 @@ struct Broken<'a> {
 }
 
 impl Source for Broken<'_> {
-    ghost tells = { false };
+    ghost is_modelled = { false };
 
     ghost left = { λ _. [] };
 
@@ -42,7 +42,7 @@ struct Narrow {
 }
 
 impl Sink for Narrow {
-    ghost tells = { false };
+    ghost is_modelled = { false };
 
     ghost taken = { λ _. [] };
 
@@ -65,27 +65,18 @@ impl Sink for Narrow {
 fn a_script_that_breaks_off_leaves_whole_batches(rt: HostRuntime) -> Result<(), Fail> {
     let alloc = rt.alloc();
     let script = begins(alloc, 40)?;
+    let (cat, log) = (catalogue(), empty_log(alloc)?);
     for (len, _) in script.iter().enumerate() {
-        let mut era = Era::first();
-        let log = empty_log(alloc)?;
-        let mut site = site_of(alloc, &era, &catalogue(), &log, Trouble::Nothing)?;
         let mut source = Broken {
             rest: script.get(..len).ok_or("a front")?,
             faults: 0,
         };
         let mut sink = MemSink::new(alloc, Vec::new(alloc));
-        let status = run(
-            &rt,
-            alloc,
-            &["-T"],
-            &mut site,
-            &mut era,
-            &mut source,
-            &mut sink,
-        )?;
-        assert!(rt; status.as_str() == "ReadFault", "at {len}: {status}");
+        let disks = Disks::of(&cat, &log);
+        let ended = run(&rt, alloc, "-T", disks, &mut source, &mut sink)?;
+        assert!(rt; ended.is("", "ReadFault"), "at {len}");
         assert!(rt; sink.taken().is_empty(), "at {len}");
-        let end = end_of(&rt, alloc, site.into_disks().log.bytes())?;
+        let end = end_of(&rt, alloc, &ended.log)?;
         assert_eq!(rt; end, Some(if len < 279 { 0 } else { 32 }), "at {len}");
     }
     Ok(())
@@ -95,32 +86,23 @@ fn a_script_that_breaks_off_leaves_whole_batches(rt: HostRuntime) -> Result<(), 
 fn a_sink_that_fails_has_a_front_of_the_text(rt: HostRuntime) -> Result<(), Fail> {
     let alloc = rt.alloc();
     let text = b"lines 40 commits 0 end 40\nok\n".as_slice();
+    let (cat, log) = (catalogue(), empty_log(alloc)?);
     for room in 0..=29 {
-        let mut era = Era::first();
-        let log = empty_log(alloc)?;
-        let mut site = site_of(alloc, &era, &catalogue(), &log, Trouble::Nothing)?;
         let mut source = MemSource::new(alloc, begins(alloc, 40)?, Vec::new(alloc));
         let mut sink = Narrow {
             taken: Vec::new(alloc),
             room,
             faults: 0,
         };
-        let status = run(
-            &rt,
-            alloc,
-            &["-T"],
-            &mut site,
-            &mut era,
-            &mut source,
-            &mut sink,
-        )?;
+        let disks = Disks::of(&cat, &log);
+        let ended = run(&rt, alloc, "-T", disks, &mut source, &mut sink)?;
         let want = if room < 29 { "WriteFault" } else { "Ok" };
-        assert!(rt; status.as_str() == want, "at {room}: {status}");
+        assert!(rt; ended.is("", want), "at {room}");
         assert!(rt;
             sink.taken.len() == room && text.starts_with(&sink.taken),
             "at {room}"
         );
-        let end = end_of(&rt, alloc, site.into_disks().log.bytes())?;
+        let end = end_of(&rt, alloc, &ended.log)?;
         assert_eq!(rt; end, Some(40), "at {room}");
     }
     Ok(())

@@ -1,11 +1,11 @@
-// The disks of the site, whose headers are written by hand.
-ghost use Rattle.std.specs.Prelude.{◌≡◌, IfOk};
+// The disks of a site in memory, whose headers are written by hand.
+ghost use Rattle.std.specs.Prelude.{◌≡◌};
 ghost use Rattle.site_disk.specs.Ledger.{MayUse};
 ghost use Rattle.site_disk.specs.MemDisk.{disk_ledger};
 ghost use Rattle.onbar_command.specs.Disks.{MayUseAll};
 
 use onbar_command::{Site, SiteDisks};
-use site_disk::{Era, MemDisk};
+use site_disk::{Choice, Era, MemDisk, OutOfMemory};
 use site_headers::write_log_header;
 use std::alloc::{AllocError, Global};
 
@@ -43,36 +43,94 @@ pub enum Trouble {
     StopsCatalogue(u64, usize),
 }
 
-fn disk_of(alloc: Global, era: &Era, bytes: &[u8]) -> Result<MemDisk, AllocError>
-    ensures { IfOk result (λ disk. MayUse era.now (disk_ledger disk)) }
-{
-    Ok(MemDisk::new(alloc, era, Vec::from_slice(alloc, bytes)?))
+impl Trouble {
+    /// The calls of the log that fail alone.
+    pub(crate) fn failing(self, alloc: Global) -> Result<Vec<u64>, AllocError> {
+        match self {
+            Trouble::Fails(call) => Vec::from_slice(alloc, &[call]),
+            _ => Ok(Vec::new(alloc)),
+        }
+    }
 }
 
-/// A site with this catalogue and this log, and nothing else.
-pub fn site_of(
+/// The bytes of a catalogue and a log, and how their disks fail. With a seed they crash behind the command.
+#[derive(Clone, Copy)]
+pub struct Disks<'a> {
+    pub cat: &'a [u8],
+    pub log: &'a [u8],
+    pub trouble: Trouble,
+    pub crash: Option<u64>,
+}
+
+impl<'a> Disks<'a> {
+    /// Disks that don't fail.
+    pub fn of(cat: &'a [u8], log: &'a [u8]) -> Disks<'a> {
+        Disks {
+            cat,
+            log,
+            trouble: Trouble::Nothing,
+            crash: None,
+        }
+    }
+}
+
+fn disk_of(alloc: Global, era: &Era, bytes: Vec<u8>) -> MemDisk
+    ensures { MayUse era.now (disk_ledger result) }
+{
+    MemDisk::new(alloc, era, bytes)
+}
+
+/// A site with this catalogue and this log, and nothing else. Takes no memory.
+pub(crate) fn site_of(
     alloc: Global,
     era: &Era,
-    cat: &[u8],
-    log: &[u8],
+    cat: Vec<u8>,
+    log: Vec<u8>,
+    failing: Vec<u64>,
     trouble: Trouble,
-) -> Result<Site<MemDisk>, AllocError>
-    ensures { IfOk result (λ site. MayUseAll disk_ledger era.now site.disks) }
+) -> Site<MemDisk>
+    ensures { MayUseAll disk_ledger era.now result.disks }
 {
-    let mut cat = disk_of(alloc, era, cat)?;
-    let mut log = disk_of(alloc, era, log)?;
+    let mut cat = disk_of(alloc, era, cat);
+    let mut log = disk_of(alloc, era, log);
+    log.fail_at(failing);
     match trouble {
-        Trouble::Nothing => {}
-        Trouble::Fails(call) => log.fail_at(Vec::from_slice(alloc, &[call])?),
+        Trouble::Nothing | Trouble::Fails(_) => {}
         Trouble::Stops(call, bytes) => log.stop_at(call, bytes),
         Trouble::StopsCatalogue(call, bytes) => cat.stop_at(call, bytes),
     }
-    Ok(Site::new(SiteDisks {
+    Site::new(SiteDisks {
         cat,
-        spare: disk_of(alloc, era, &[])?,
-        boot: disk_of(alloc, era, &[])?,
+        spare: disk_of(alloc, era, Vec::new(alloc)),
+        boot: disk_of(alloc, era, Vec::new(alloc)),
         log,
         volumes: Vec::new(alloc),
         chunks: Vec::new(alloc),
-    }))
+    })
+}
+
+fn bytes_of(alloc: Global, disk: &MemDisk) -> Result<Vec<u8>, OutOfMemory> {
+    Ok(Vec::from_slice(alloc, disk.bytes())?)
+}
+
+fn crash_bytes(alloc: Global, disk: MemDisk, era: &Era, seed: u64) -> Result<Vec<u8>, OutOfMemory> {
+    let choice = Choice {
+        calls: u64::MAX,
+        seed,
+    };
+    let left = disk.crash(era, &choice)?;
+    bytes_of(alloc, &left)
+}
+
+/// The bytes that a disk has, or that a crash leaves of it.
+pub(crate) fn bytes_left(
+    alloc: Global,
+    disk: MemDisk,
+    era: &Era,
+    crash: Option<u64>,
+) -> Result<Vec<u8>, OutOfMemory> {
+    match crash {
+        Some(seed) => crash_bytes(alloc, disk, era, seed),
+        None => bytes_of(alloc, &disk),
+    }
 }

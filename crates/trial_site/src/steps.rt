@@ -1,13 +1,14 @@
 // Commands one after another.
 use crate::commands::{Ended, command};
-use crate::disks::Trouble;
-use std::alloc::{AllocError, Global};
+use crate::disks::Disks;
+use site_disk::OutOfMemory;
+use std::alloc::Global;
 use std::thread::Threads;
 
-/// A command of at most 99 words, its script, and its text and status.
+/// A command, its words parted by a space, its script, and its text and status.
 #[derive(Clone, Copy)]
 pub struct Step<'a> {
-    pub words: &'a [&'a str],
+    pub words: &'a str,
     pub script: &'a str,
     pub text: &'a str,
     pub status: &'a str,
@@ -19,15 +20,11 @@ pub fn run_steps<R: Threads + Sync>(
     rt: &R,
     alloc: Global,
     steps: &[Step],
-) -> Result<Option<Ended>, AllocError> {
-    let mut last = command(rt, alloc, &[], &[], &[], Trouble::Nothing, b"")?;
+) -> Result<Option<Ended>, OutOfMemory> {
+    let mut last = command(rt, alloc, "", Disks::of(&[], &[]), b"")?;
     for step in steps {
-        if step.words.len() >= 100 {
-            return Ok(None);
-        }
-        let (cat, log) = (last.disks.cat.bytes(), last.disks.log.bytes());
-        let script = step.script.as_bytes();
-        let ended = command(rt, alloc, step.words, cat, log, Trouble::Nothing, script)?;
+        let disks = Disks::of(&last.cat, &last.log);
+        let ended = command(rt, alloc, step.words, disks, step.script.as_bytes())?;
         if !ended.is(step.text, step.status) {
             return Ok(None);
         }
@@ -37,7 +34,7 @@ pub fn run_steps<R: Threads + Sync>(
 }
 
 pub const INIT: Step<'static> = Step {
-    words: &["-init", "A:4"],
+    words: "-init A:4",
     script: "",
     text: "space A pages 4\nok\n",
     status: "Ok",
@@ -45,7 +42,7 @@ pub const INIT: Step<'static> = Step {
 
 /// A transaction of three records.
 pub const WRITTEN: Step<'static> = Step {
-    words: &["-T"],
+    words: "-T",
     script: "begin 1\nwrite 1 A 0 0 41\ncommit 1\n",
     text: "lines 3 commits 1 end 3\nok\n",
     status: "Ok",
@@ -53,7 +50,7 @@ pub const WRITTEN: Step<'static> = Step {
 
 /// An empty script behind it.
 pub const NOTHING: Step<'static> = Step {
-    words: &["-T"],
+    words: "-T",
     script: "",
     text: "lines 0 commits 0 end 3\nok\n",
     status: "Ok",
