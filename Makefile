@@ -3,11 +3,16 @@
 PREFIX ?= /usr/local
 DESTDIR ?=
 RT ?= rt
+# How many crates are proved side by side; each takes 1 to 4 GB of memory.
+JOBS ?= $(shell nproc)
 
-.PHONY: all demo bench check install clean
+.PHONY: all demo test bench check install clean
 
-# `rt run` builds and then runs. Without words the program ends with exit status 5, and makes the files of a site, empty.
+# What the most crates below the program stand on is proved first, crates side by side, and then the rest one crate after
+# another, each with all processors. `rt run` builds and then runs: without words the program ends with exit status 5, and
+# makes the files of a site, empty.
 all:
+	cd crates/site_model && $(RT) all check --jobs $(JOBS)
 	cd crates/onbar_main && { $(RT) run </dev/null >/dev/null || test $$? -eq 5; }
 	cd crates/onbar_main && rm -f cat spare boot log vol[01][0-9] chunk[01][0-9]
 	mkdir -p bin
@@ -17,13 +22,17 @@ all:
 demo: all
 	demo/killed_run.sh bin/onbar
 
+# The program over files: statuses, texts, devices that fail, kills, system calls.
+test: all
+	tests/run.sh bin/onbar
+
 # Throughput and memory. Not part of the checks.
 bench: all
 	bench/log_script.sh bin/onbar
 
-# Proofs, must-fail edits, tests and stored runs.
+# Proofs, must-fail edits, tests and stored runs, and then the program over files.
 check:
-	$(RT) ci
+	.ci/run
 
 install: all
 	install -d $(DESTDIR)$(PREFIX)/bin

@@ -250,7 +250,7 @@ fn formatted<R: Files<File = File>>(
     ensures idle { IfOk result IsIdle }
 {
     let live: Vec<Vec<Run>> = Vec::new(alloc);
-    let disk = FileDisk::open(rt, alloc, era, PATH)?;
+    let disk = FileDisk::open(rt, era, PATH)?;
     let mut volume = Volume::new(alloc, disk, 3);
     volume.format(era, SITE, BLOCKS)?;
     volume.open(era, SITE, &live)?;

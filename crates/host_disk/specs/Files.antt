@@ -2,17 +2,16 @@
 use Rattle.std.specs.Prelude.{ℕ, List, []}
 use Rattle.site_disk.specs.Ledger.{Ledger}
 use Rattle.host_disk.specs.declared.file.FileDisk.{FileDisk}
-use Rattle.host_disk.specs.Key.{key_of}
 
 -- faults, bytes read and written, eras
 abbrev pub file_ledger : FileDisk → Ledger
 file_ledger disk = record {
-  faults = disk.faults;
+  faults = disk.errors.count;
   read = disk.read;
   written = disk.written;
   last = disk.last;
   synced = disk.synced;
-  key = key_of disk.key;
+  key = disk.key;
 }
 
 -- what a read gives isn't told

@@ -1,9 +1,9 @@
 // The standard input and output.
-ghost use Rattle.std.specs.Prelude.{◌≡◌, ◌<◌, ◌≤◌, [], length, false, IfSome};
+ghost use Rattle.std.specs.Prelude.{◌≡◌, ◌<◌, ◌≤◌, [], length, false, IfOk};
 
-use crate::counting::count_fault;
+use crate::errors::Errors;
 use site_disk::{Failed, Sink, Source};
-use std::io::{ErrorKind, Input, Print, Read};
+use std::io::{self, ErrorKind, Input, Print, Read};
 use std::marker::PhantomData;
 
 /// The standard input.
@@ -11,21 +11,20 @@ use std::marker::PhantomData;
 pub struct StdSource<'a, R: Input> {
     reader: R::Reader,
     rt: PhantomData<&'a R>,
-    faults: u64,
+    errors: Errors,
 }
 
 // One read, again where a signal interrupts it.
-fn read_some<R: Read>(reader: &mut R, into: &mut [u8]) -> Option<usize>
-    ensures { IfSome result (λ n. n ≤ length into.old) }
+fn read_some<R: Read>(reader: &mut R, into: &mut [u8]) -> io::Result<usize>
+    ensures { IfOk result (λ n. n ≤ length into.old) }
 {
     for _ in 0..u64::MAX {
         match reader.read(into) {
-            Ok(n) => return Some(n),
             Err(error) if error.kind() == ErrorKind::Interrupted => {}
-            Err(_) => return None,
+            answer => return answer,
         }
     }
-    None
+    Err(io::Error::from(ErrorKind::Interrupted))
 }
 
 impl<'a, R: Input> StdSource<'a, R> {
@@ -36,22 +35,29 @@ impl<'a, R: Input> StdSource<'a, R> {
         StdSource {
             reader: rt.reader(),
             rt: PhantomData,
-            faults: 0,
+            errors: Errors::none(),
         }
+    }
+
+    /// The last error that the system answered.
+    pub fn last_error(&self) -> Option<io::Error>
+        ensures { result ≡ self.now.errors.last }
+    {
+        self.errors.last
     }
 }
 
 impl<R: Input> Source for StdSource<'_, R> {
-    ghost tells = { false };
+    ghost is_modelled = { false };
 
     ghost left = { λ _. [] };
 
-    ghost faults = { λ source. source.faults };
+    ghost faults = { λ source. source.errors.count };
 
     fn read(&mut self, into: &mut [u8]) -> Result<usize, Failed> {
         match read_some(&mut self.reader, into) {
-            Some(n) => Ok(n),
-            None => Err(count_fault(&mut self.faults)),
+            Ok(n) => Ok(n),
+            Err(error) => Err(self.errors.add(error)),
         }
     }
 }
@@ -60,23 +66,22 @@ impl<R: Input> Source for StdSource<'_, R> {
 #[derive(Drop)]
 pub struct StdSink<'a, R: Print> {
     rt: &'a R,
-    faults: u64,
+    errors: Errors,
 }
 
 // One write that takes a byte at least of a piece that isn't empty, again where a signal interrupts it.
-fn write_some<R: Print>(rt: &R, piece: &[u8]) -> Option<usize>
-    ensures bound { IfSome result (λ n. n ≤ length piece.now) }
-    ensures some { IfSome result (λ n. 0 < length piece.now → 0 < n) }
+fn write_some<R: Print>(rt: &R, piece: &[u8]) -> io::Result<usize>
+    ensures bound { IfOk result (λ n. n ≤ length piece.now) }
+    ensures some { IfOk result (λ n. 0 < length piece.now → 0 < n) }
 {
     for _ in 0..u64::MAX {
         match rt.write_some(piece) {
-            Ok(0) if !piece.is_empty() => return None,
-            Ok(n) => return Some(n),
+            Ok(0) if !piece.is_empty() => return Err(io::Error::from(ErrorKind::WriteZero)),
             Err(error) if error.kind() == ErrorKind::Interrupted => {}
-            Err(_) => return None,
+            answer => return answer,
         }
     }
-    None
+    Err(io::Error::from(ErrorKind::Interrupted))
 }
 
 impl<'a, R: Print> StdSink<'a, R> {
@@ -84,21 +89,31 @@ impl<'a, R: Print> StdSink<'a, R> {
     pub fn new(rt: &'a R) -> StdSink<'a, R>
         ensures { ⟦<StdSink<'a, R> as Sink>⟧.faults result ≡ 0 }
     {
-        StdSink { rt, faults: 0 }
+        StdSink {
+            rt,
+            errors: Errors::none(),
+        }
+    }
+
+    /// The last error that the system answered.
+    pub fn last_error(&self) -> Option<io::Error>
+        ensures { result ≡ self.now.errors.last }
+    {
+        self.errors.last
     }
 }
 
 impl<R: Print> Sink for StdSink<'_, R> {
-    ghost tells = { false };
+    ghost is_modelled = { false };
 
     ghost taken = { λ _. [] };
 
-    ghost faults = { λ sink. sink.faults };
+    ghost faults = { λ sink. sink.errors.count };
 
     fn write(&mut self, piece: &[u8]) -> Result<usize, Failed> {
         match write_some(self.rt, piece) {
-            Some(n) => Ok(n),
-            None => Err(count_fault(&mut self.faults)),
+            Ok(n) => Ok(n),
+            Err(error) => Err(self.errors.add(error)),
         }
     }
 }

@@ -1,8 +1,8 @@
 ghost use Rattle.std.specs.Prelude.{◌≡◌, IfOk};
 
-use crate::{FileDisk, HostFault, StdSink, StdSource};
+use crate::{FileDisk, Folder, HostFault, StdSink, StdSource};
 use site_disk::{Disk, Era, Failed, Sink, Source};
-use std::alloc::{Allocator, Global};
+use std::alloc::Allocator;
 use std::cell::Cell;
 use std::fmt::Display;
 use std::fs;
@@ -13,25 +13,26 @@ const FOLDER: &str = "host_disk_test";
 
 const PATH: &str = "host_disk_test/disk";
 
-fn read_again(rt: &HostRuntime, alloc: Global, at: u64, into: &mut [u8]) -> Result<usize, Fail> {
+fn read_again(rt: &HostRuntime, at: u64, into: &mut [u8]) -> Result<usize, Fail> {
     let era = Era::first();
-    let mut disk = FileDisk::open(rt, alloc, &era, PATH)?;
+    let mut disk = FileDisk::open(rt, &era, PATH)?;
     Ok(disk.read_at(&era, at, into)?)
 }
 
 #[test]
 fn a_file_is_found_again_as_it_was_written(rt: HostRuntime) -> Result<(), Fail> {
-    let alloc = rt.alloc();
     let era = Era::first();
     let _ = fs::remove_dir_all(&rt, FOLDER);
-    let missing = FileDisk::open(&rt, alloc, &era, PATH);
-    assert!(rt; matches!(missing, Err(HostFault::Failed)));
+    let missing = FileDisk::open(&rt, &era, PATH);
+    assert!(rt; matches!(missing, Err(HostFault::Failed(_))));
     fs::create_dir(&rt, FOLDER)?;
-    let mut disk = FileDisk::open(&rt, alloc, &era, PATH)?;
+    let mut disk = FileDisk::open(&rt, &era, PATH)?;
     assert_eq!(rt; disk.len(), Ok(0));
     assert_eq!(rt; disk.write_at(&era, 0, b"abcdef"), Ok(()));
     assert_eq!(rt; disk.write_at(&era, 4, b"xyz"), Ok(()));
+    assert!(rt; disk.last_error().is_none());
     assert_eq!(rt; disk.write_at(&era, u64::MAX, b"!"), Err(Failed));
+    assert!(rt; disk.last_error().is_some());
     assert_eq!(rt; disk.sync(&era), Ok(()));
     assert_eq!(rt; disk.len(), Ok(7));
     let mut buffer = *b"----";
@@ -41,10 +42,24 @@ fn a_file_is_found_again_as_it_was_written(rt: HostRuntime) -> Result<(), Fail> 
         (7, 0, b"yzcd"),
         (u64::MAX, 0, b"yzcd"),
     ] {
-        assert_eq!(rt; read_again(&rt, alloc, at, &mut buffer)?, want, "from {at}");
+        assert_eq!(rt; read_again(&rt, at, &mut buffer)?, want, "from {at}");
         assert_eq!(rt; buffer, *held, "from {at}");
     }
     fs::remove_dir_all(&rt, FOLDER)?;
+    Ok(())
+}
+
+#[test]
+fn a_file_is_held_by_one_at_a_time(rt: HostRuntime) -> Result<(), Fail> {
+    let era = Era::first();
+    let first = FileDisk::open(&rt, &era, "held")?;
+    let second = FileDisk::open(&rt, &era, "held")?;
+    assert!(rt; first.hold().is_ok());
+    assert!(rt; matches!(second.hold(), Err(HostFault::Held)));
+    drop(first);
+    assert!(rt; second.hold().is_ok());
+    Folder::open(&rt, ".")?.sync()?;
+    fs::remove_file(&rt, "held")?;
     Ok(())
 }
 

@@ -1,39 +1,25 @@
--- The exit status of a process.
-use Rattle.std.specs.Prelude.{ℕ}
+-- The exit status of a command that can't begin, and what it says of a device.
+use Rattle.std.specs.Prelude.{ℕ, Option, None, Some}
+use Rattle.std.specs.declared.io.Error.{Error}
+use Rattle.host_disk.specs.declared.file.FileDisk.{FileDisk}
+use Rattle.onbar_command.specs.Disks.{disk_of}
+use Rattle.onbar_command.specs.declared.site.SiteDisks.{SiteDisks}
 use Rattle.onbar_main.specs.declared.ending.StartFault.{StartFault}
-use Rattle.onbar_main.specs.declared.ending.StartFault.TheVariants.{OutOfMemory as NoMemory, File, Words}
-use Rattle.site_model.specs.declared.status.Status.{Status}
-use Rattle.site_model.specs.declared.status.Status.TheVariants.{Ok as Done, OutOfMemory, ReadFault, WriteFault, DiskFault, Usage, ScriptFault, NotFormatted, AlreadyFormatted, BadRecord, NoSuchSpace, NoSuchCopy, NoSuchPage, NoSuchLog, NeedsRestart, NothingToRestart, ChunkLost, LogLost, Refused, LogFull, StoreFull, CatalogueFull, BootFull, TooManyObjects}
-
--- of a command: a number of its own for each status
-abbrev pub status_number : Status → ℕ
-status_number Done = 0
-status_number OutOfMemory = 1
-status_number ReadFault = 2
-status_number WriteFault = 3
-status_number (DiskFault disk) = 4
-status_number (Usage word) = 5
-status_number (ScriptFault line why) = 6
-status_number NotFormatted = 7
-status_number AlreadyFormatted = 8
-status_number (BadRecord disk slot) = 9
-status_number (NoSuchSpace name) = 10
-status_number (NoSuchCopy id) = 11
-status_number (NoSuchPage page) = 12
-status_number (NoSuchLog id) = 13
-status_number (NeedsRestart number) = 14
-status_number NothingToRestart = 15
-status_number (ChunkLost space) = 16
-status_number LogLost = 17
-status_number (Refused items) = 18
-status_number (LogFull full) = 19
-status_number (StoreFull volume) = 20
-status_number CatalogueFull = 21
-status_number BootFull = 22
-status_number TooManyObjects = 23
+use Rattle.site_model.specs.declared.disk_name.DiskName.{DiskName}
+use Rattle.onbar_main.specs.declared.ending.StartFault.TheVariants.{OutOfMemory as NoMemory, Disk, Held, Folder, Words}
 
 -- of a command that couldn't begin: those of want of memory and of a disk's fault, and one of its own
 abbrev pub start_number : StartFault → ℕ
 start_number NoMemory = 1
-start_number File = 4
+start_number (Disk name error) = 4
+start_number Held = 4
+start_number (Folder error) = 4
 start_number Words = 24
+
+-- the last error on a disk of a site
+abbrev pub error_on : SiteDisks FileDisk → DiskName → Option Error
+error_on disks name = of_disk (disk_of disks name)
+  where
+    of_disk : Option FileDisk → Option Error
+    of_disk None = None
+    of_disk (Some disk) = disk.errors.last

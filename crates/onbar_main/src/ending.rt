@@ -1,33 +1,59 @@
 // How the process ends.
-ghost use Rattle.std.specs.Prelude.{◌≡◌};
-ghost use Rattle.onbar_main.specs.Endings.{start_number, status_number};
+ghost use Rattle.std.specs.Prelude.{◌≡◌, ◌↔◌, IsSome};
+ghost use Rattle.onbar_main.specs.Endings.{error_on, start_number};
+ghost use Rattle.site_model.specs.Commands.{CutsShort};
 
-use host_disk::HostFault;
-use site_model::Status;
-use std::alloc::AllocError;
-use std::io;
+use host_disk::{FileDisk, HostFault};
+use onbar_command::SiteDisks;
+use site_model::{DiskName, Status};
+use std::alloc::{AllocError, AllocFailed};
+use std::{fmt, io};
 
-/// Why a command can't begin.
-#[derive(Clone, Copy, Debug, PartialEq, Eq)]
+/// Why a command can't begin. Nothing was written then.
+#[derive(Clone, Copy, Debug)]
 pub enum StartFault {
     OutOfMemory,
-    /// A file can't be opened.
-    File,
+    /// The file of a disk can't be opened.
+    Disk(DiskName, io::Error),
+    /// Another command holds the site.
+    Held,
+    /// The folder can't be opened or synced.
+    Folder(io::Error),
     /// The words can't be had.
     Words,
 }
 
-impl From<HostFault> for StartFault {
-    fn from(fault: HostFault) -> StartFault {
+impl StartFault {
+    /// The file of a disk can't be used.
+    pub fn of_disk(name: DiskName, fault: HostFault) -> StartFault {
         match fault {
-            HostFault::Failed => StartFault::File,
+            HostFault::Failed(error) => StartFault::Disk(name, error),
+            HostFault::Held => StartFault::Held,
             HostFault::OutOfMemory => StartFault::OutOfMemory,
+        }
+    }
+}
+
+impl fmt::Display for StartFault {
+    fn fmt<W: fmt::Write>(&self, f: &mut fmt::Formatter<W>) -> fmt::Result {
+        match self {
+            StartFault::OutOfMemory => write!(f, "out of memory"),
+            StartFault::Disk(name, error) => write!(f, "{name}: {error}"),
+            StartFault::Held => write!(f, "another command is at work in this folder"),
+            StartFault::Folder(error) => write!(f, "the folder: {error}"),
+            StartFault::Words => write!(f, "the words can't be had"),
         }
     }
 }
 
 impl From<AllocError> for StartFault {
     fn from(_: AllocError) -> StartFault {
+        StartFault::OutOfMemory
+    }
+}
+
+impl<T: Drop> From<AllocFailed<T>> for StartFault {
+    fn from(_: AllocFailed<T>) -> StartFault {
         StartFault::OutOfMemory
     }
 }
@@ -43,44 +69,70 @@ impl From<io::Error> for StartFault {
 }
 
 /// The exit status of a command that couldn't begin.
-pub fn start_status(fault: StartFault) -> u8
-    ensures { result ≡ start_number fault }
+pub fn start_status(fault: &StartFault) -> u8
+    ensures { result ≡ start_number fault.now }
 {
     match fault {
         StartFault::OutOfMemory => 1,
-        StartFault::File => 4,
+        StartFault::Disk(_, _) | StartFault::Held | StartFault::Folder(_) => 4,
         StartFault::Words => 24,
     }
 }
 
-/// The exit status of a command, from 0 to 23.
-pub fn exit_status(status: &Status) -> u8
-    ensures { result ≡ status_number status.now }
+/// What cut a command short. What stands of it, the next one finds.
+#[derive(Clone, Copy, Debug)]
+pub enum Cut {
+    OutOfMemory,
+    Input(io::Error),
+    Output(io::Error),
+    Disk(DiskName, io::Error),
+}
+
+impl fmt::Display for Cut {
+    fn fmt<W: fmt::Write>(&self, f: &mut fmt::Formatter<W>) -> fmt::Result {
+        match self {
+            Cut::OutOfMemory => write!(f, "out of memory")?,
+            Cut::Input(error) => write!(f, "standard input: {error}")?,
+            Cut::Output(error) => write!(f, "standard output: {error}")?,
+            Cut::Disk(name, error) => write!(f, "{name}: {error}")?,
+        }
+        write!(f, ": the command was cut short")
+    }
+}
+
+// The last error on a disk of a site.
+fn disk_error(disks: &SiteDisks<FileDisk>, name: DiskName) -> Option<io::Error>
+    ensures { result ≡ error_on disks.now name }
 {
+    match name {
+        DiskName::Cat => disks.cat.last_error(),
+        DiskName::Spare => disks.spare.last_error(),
+        DiskName::Boot => disks.boot.last_error(),
+        DiskName::Log => disks.log.last_error(),
+        DiskName::Volume(n) => disks.volumes.get(usize::from(n))?.last_error(),
+        DiskName::Chunk(n) => disks.chunks.get(usize::from(n))?.last_error(),
+    }
+}
+
+/// What cut a command short with this status, with the system's last answer on the device: the command's own text says
+/// nothing of it.
+pub fn cut_of(
+    status: &Status,
+    disks: &SiteDisks<FileDisk>,
+    input: Option<io::Error>,
+    output: Option<io::Error>,
+) -> Option<Cut>
+    ensures { IsSome result ↔ CutsShort status.now }
+{
+    let unknown = io::Error::from(io::ErrorKind::Other);
     match status {
-        Status::Ok => 0,
-        Status::OutOfMemory => 1,
-        Status::ReadFault => 2,
-        Status::WriteFault => 3,
-        Status::DiskFault(_) => 4,
-        Status::Usage(_) => 5,
-        Status::ScriptFault { line: _, why: _ } => 6,
-        Status::NotFormatted => 7,
-        Status::AlreadyFormatted => 8,
-        Status::BadRecord { disk: _, slot: _ } => 9,
-        Status::NoSuchSpace(_) => 10,
-        Status::NoSuchCopy(_) => 11,
-        Status::NoSuchPage(_) => 12,
-        Status::NoSuchLog(_) => 13,
-        Status::NeedsRestart(_) => 14,
-        Status::NothingToRestart => 15,
-        Status::ChunkLost(_) => 16,
-        Status::LogLost => 17,
-        Status::Refused(_) => 18,
-        Status::LogFull(_) => 19,
-        Status::StoreFull(_) => 20,
-        Status::CatalogueFull => 21,
-        Status::BootFull => 22,
-        Status::TooManyObjects => 23,
+        Status::OutOfMemory => Some(Cut::OutOfMemory),
+        Status::ReadFault => Some(Cut::Input(input.unwrap_or(unknown))),
+        Status::WriteFault => Some(Cut::Output(output.unwrap_or(unknown))),
+        Status::DiskFault(name) => {
+            let error = disk_error(disks, *name).unwrap_or(unknown);
+            Some(Cut::Disk(*name, error))
+        }
+        _ => None,
     }
 }

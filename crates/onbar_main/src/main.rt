@@ -1,8 +1,9 @@
 //! The program `onbar`: its words, the files of the current folder, the clock and the standard streams, handed to the
 //! command.
 //!
-//! The files of a site are opened, and made where they aren't there, whatever the words say. The process ends with the
-//! exit status of the command, or with one of its own where the command can't begin.
+//! The files of a site are opened, and made where they aren't there, whatever the words say; the site is held as long as the
+//! process runs. The process ends with the exit status of the command, or with one of its own where the command can't begin.
+//! Where the command can't begin or is cut short, a line on standard error says what was in its way.
 #![tactic(auto)]
 
 ghost use Rattle.std.specs.Prelude.{◌<◌, ◌≤◌, ◌-◌, ◌^◌, length, IfOk};
@@ -10,11 +11,12 @@ ghost use Rattle.std.specs.Prelude.{◌<◌, ◌≤◌, ◌-◌, ◌^◌, length
 mod ending;
 mod opening;
 
-use ending::{StartFault, exit_status, start_status};
+use ending::{StartFault, cut_of, start_status};
 use host_disk::{StdSink, StdSource};
 use onbar_command::{Site, onbar};
-use opening::open_disks;
+use opening::{open_disks, open_folder};
 use site_disk::Era;
+use site_model::exit_status;
 use std::alloc::Global;
 use std::env;
 use std::fs::File;
@@ -58,27 +60,37 @@ fn words_of<R: Env + AllocGlobal>(rt: &R) -> Result<Vec<String>, StartFault>
 
 fn run<R>(rt: &R, alloc: Global) -> Result<u8, StartFault>
 where
-    R: AllocGlobal + Clock + Env + Files<File = File> + Input + Print + Threads + Sync,
+    R: AllocGlobal + Clock + Env + Eprint + Files<File = File> + Input + Print + Threads + Sync,
 {
     let words = words_of(rt)?;
     let mut era = Era::first();
-    let mut site = Site::new(open_disks(rt, alloc, &era)?);
+    let folder = open_folder(rt)?;
+    let mut site = Site::new(open_disks(rt, alloc, &era, &folder)?);
+    let mut script = StdSource::new(rt);
+    let mut out = StdSink::new(rt);
     let status = onbar(
         rt,
         alloc,
         &words,
         &mut site,
         &mut era,
-        &mut StdSource::new(rt),
-        &mut StdSink::new(rt),
+        &mut script,
+        &mut out,
         moment_of(rt),
     );
+    let disks = site.into_disks();
+    if let Some(cut) = cut_of(&status, &disks, script.last_error(), out.last_error()) {
+        let _ = eprintln!(rt; "onbar: {cut}");
+    }
     Ok(exit_status(&status))
 }
 
 fn main(rt: HostRuntime) -> ExitCode {
     match run(&rt, rt.alloc()) {
         Ok(status) => ExitCode::from(status),
-        Err(fault) => ExitCode::from(start_status(fault)),
+        Err(fault) => {
+            let _ = eprintln!(rt; "onbar: {fault}");
+            ExitCode::from(start_status(&fault))
+        }
     }
 }

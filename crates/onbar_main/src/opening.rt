@@ -1,12 +1,14 @@
 // The disks of the site in the current folder.
-ghost use Rattle.std.specs.Prelude.{All, IfOk};
+ghost use Rattle.std.specs.Prelude.{◌≡◌, length, All, IfOk};
 ghost use Rattle.host_disk.specs.Files.{file_ledger};
 ghost use Rattle.onbar_command.specs.Disks.{MayUseAll};
-ghost use Rattle.site_disk.specs.Ledger.{MayUse};
+ghost use Rattle.site_disk.specs.Ledger.{MayUse, new_ledger};
 
-use host_disk::{FileDisk, HostFault};
+use crate::ending::StartFault;
+use host_disk::{FileDisk, Folder};
 use onbar_command::SiteDisks;
 use site_disk::Era;
+use site_model::DiskName;
 use std::alloc::Global;
 use std::fs::File;
 use std::rt::Files;
@@ -15,39 +17,111 @@ const VOLUMES: u16 = 17;
 
 const CHUNKS: u16 = 16;
 
-// The files of a name with two digits behind it, from 00 on.
-fn open_numbered<R: Files<File = File>>(
+/// The current folder, which is opened before the disks.
+pub fn open_folder<R: Files<File = File>>(rt: &R) -> Result<Folder, StartFault> {
+    match Folder::open(rt, ".") {
+        Ok(folder) => Ok(folder),
+        Err(error) => Err(StartFault::Folder(error)),
+    }
+}
+
+fn open_disk<R: Files<File = File>>(
     rt: &R,
     alloc: Global,
     era: &Era,
-    name: &str,
-    count: u16,
-) -> Result<Vec<FileDisk>, HostFault>
-    ensures { IfOk result (λ disks. All (λ disk. MayUse era.now (file_ledger disk)) disks.items) }
+    name: DiskName,
+) -> Result<FileDisk, StartFault>
+    ensures { IfOk result (λ disk. file_ledger disk ≡ new_ledger era.now.number era.now.key) }
+{
+    let path = format!(in alloc; "{name}")?;
+    match FileDisk::open(rt, era, path.as_str()) {
+        Ok(disk) => Ok(disk),
+        Err(fault) => Err(StartFault::of_disk(name, fault)),
+    }
+}
+
+// The catalogue's file, which a command holds: two commands in one folder would write over each other.
+fn open_held<R: Files<File = File>>(
+    rt: &R,
+    alloc: Global,
+    era: &Era,
+) -> Result<FileDisk, StartFault>
+    ensures { IfOk result (λ disk. file_ledger disk ≡ new_ledger era.now.number era.now.key) }
+{
+    let cat = open_disk(rt, alloc, era, DiskName::Cat)?;
+    match cat.hold() {
+        Ok(()) => Ok(cat),
+        Err(fault) => Err(StartFault::of_disk(DiskName::Cat, fault)),
+    }
+}
+
+fn open_volumes<R: Files<File = File>>(
+    rt: &R,
+    alloc: Global,
+    era: &Era,
+) -> Result<Vec<FileDisk>, StartFault>
+    ensures may { IfOk result (λ disks. All (λ disk. MayUse era.now (file_ledger disk)) disks.items) }
+    ensures count { IfOk result (λ disks. length disks.items ≡ 17) }
 {
     let mut disks = Vec::new(alloc);
-    for n in 0..count {
-        let path = format!(in alloc; "{name}{n:02}")?;
-        disks.push(FileDisk::open(rt, alloc, era, path.as_str())?)?;
+    for n in 0..VOLUMES {
+        disks.push(open_disk(rt, alloc, era, DiskName::Volume(n))?)?;
     }
     Ok(disks)
 }
 
-/// Opens the files `cat`, `spare`, `boot`, `log`, `vol00` to `vol16` and `chunk00` to `chunk15`, and makes those that
-/// aren't there, empty. They may be used from this era on.
+fn open_chunks<R: Files<File = File>>(
+    rt: &R,
+    alloc: Global,
+    era: &Era,
+) -> Result<Vec<FileDisk>, StartFault>
+    ensures may { IfOk result (λ disks. All (λ disk. MayUse era.now (file_ledger disk)) disks.items) }
+    ensures count { IfOk result (λ disks. length disks.items ≡ 16) }
+{
+    let mut disks = Vec::new(alloc);
+    for n in 0..CHUNKS {
+        disks.push(open_disk(rt, alloc, era, DiskName::Chunk(n))?)?;
+    }
+    Ok(disks)
+}
+
+// The catalogue's file is held before any other is opened.
+fn open_files<R: Files<File = File>>(
+    rt: &R,
+    alloc: Global,
+    era: &Era,
+) -> Result<SiteDisks<FileDisk>, StartFault>
+    ensures may { IfOk result (λ disks. MayUseAll file_ledger era.now disks) }
+    ensures volumes { IfOk result (λ disks. length disks.volumes.items ≡ 17) }
+    ensures chunks { IfOk result (λ disks. length disks.chunks.items ≡ 16) }
+{
+    Ok(SiteDisks {
+        cat: open_held(rt, alloc, era)?,
+        spare: open_disk(rt, alloc, era, DiskName::Spare)?,
+        boot: open_disk(rt, alloc, era, DiskName::Boot)?,
+        log: open_disk(rt, alloc, era, DiskName::Log)?,
+        volumes: open_volumes(rt, alloc, era)?,
+        chunks: open_chunks(rt, alloc, era)?,
+    })
+}
+
+/// Opens the files `cat`, `spare`, `boot`, `log`, `vol00` to `vol16` and `chunk00` to `chunk15` of the current folder, and
+/// makes those that aren't there, empty. They may be used from this era on.
+///
+/// The folder is synced at each start: the command that made a file may have been killed before it came to that.
 pub fn open_disks<R: Files<File = File>>(
     rt: &R,
     alloc: Global,
     era: &Era,
-) -> Result<SiteDisks<FileDisk>, HostFault>
-    ensures { IfOk result (λ disks. MayUseAll file_ledger era.now disks) }
+    folder: &Folder,
+) -> Result<SiteDisks<FileDisk>, StartFault>
+    ensures may { IfOk result (λ disks. MayUseAll file_ledger era.now disks) }
+    ensures volumes { IfOk result (λ disks. length disks.volumes.items ≡ 17) }
+    ensures chunks { IfOk result (λ disks. length disks.chunks.items ≡ 16) }
 {
-    Ok(SiteDisks {
-        cat: FileDisk::open(rt, alloc, era, "cat")?,
-        spare: FileDisk::open(rt, alloc, era, "spare")?,
-        boot: FileDisk::open(rt, alloc, era, "boot")?,
-        log: FileDisk::open(rt, alloc, era, "log")?,
-        volumes: open_numbered(rt, alloc, era, "vol", VOLUMES)?,
-        chunks: open_numbered(rt, alloc, era, "chunk", CHUNKS)?,
-    })
+    let disks = open_files(rt, alloc, era)?;
+    match folder.sync() {
+        Ok(()) => Ok(disks),
+        Err(error) => Err(StartFault::Folder(error)),
+    }
 }

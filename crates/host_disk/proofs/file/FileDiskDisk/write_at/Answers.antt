@@ -1,4 +1,4 @@
-use Rattle.std.proofs.Common.{ℕ, ◌+◌, ◌<◌, List, length, inl}
+use Rattle.std.proofs.Common.{length, inl}
 use Rattle.site_disk.specs.BytesLaws.{torn_none}
 use Rattle.host_disk.proofs.file.FileDiskDisk.write_at.Goals as goal
 

@@ -1,8 +1,0 @@
-use Rattle.std.proofs.Common.{All}
-use Rattle.host_disk.specs.Files.{file_ledger}
-use Rattle.site_disk.specs.Ledger.{MayUse}
-use Rattle.onbar_main.proofs.opening.open_numbered.Given as goal
-
--- the disks so far may be used
-abbrev pub invariant-loop-n : goal.invariant-loop-n
-invariant-loop-n g l = All (λ disk. MayUse l.era (file_ledger disk)) l.disks.items
