@@ -1,0 +1,4 @@
+pub mod LiveLaws
+pub mod PositionsLaws
+pub mod EffectiveLaws
+pub mod PagesLaws
