@@ -1,0 +1,11 @@
+pub mod Ways
+pub mod ListLaws
+pub mod ChangesLaws
+pub mod LiveLaws
+pub mod WayLaws
+pub mod CutLaws
+pub mod Steps
+pub mod StepLaws
+pub mod RestLaws
+pub mod Pictures
+pub mod PictureLaws

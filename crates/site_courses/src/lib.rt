@@ -1,0 +1,4 @@
+//! What each command does to a site: its course of moves, from what the site is.
+//!
+//! Definitions alone.
+#![tactic(auto)]

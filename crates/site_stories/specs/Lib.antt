@@ -1,0 +1,9 @@
+pub mod Events
+pub mod CutLaws
+pub mod EventLaws
+pub mod Restarts
+pub mod RestartLaws
+pub mod Restores
+pub mod RestoreLaws
+pub mod Stories
+pub mod StoryLaws

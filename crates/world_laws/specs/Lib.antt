@@ -1,0 +1,14 @@
+pub mod ListLaws
+pub mod TableLaws
+pub mod GrowthLaws
+pub mod LinesLaws
+pub mod RingLaws
+pub mod OpenLaws
+pub mod AppendLaws
+pub mod ResetLaws
+pub mod StoreLaws
+pub mod BootLaws
+pub mod LaneLaws
+pub mod PhaseLaws
+pub mod KeptLaws
+pub mod NewLaws
