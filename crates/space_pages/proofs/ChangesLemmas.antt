@@ -2,14 +2,13 @@
 use Rattle.std.proofs.Common.{◌≡◌, ℕ, zero, suc, ◌+◌, ◌<◌, List, [], ◌∷◌, ◌++◌, length, map, take, drop, get_or, Result, Ok, Err, OnErr, sym, ap, ◌∙◌, arith}
 use Rattle.std.proofs.lemmas.List.{map-append, map_more, take-append-drop}
 use Rattle.log_history.specs.Effects.{Change, Page}
-use Rattle.log_record.specs.Layout.{IsPatch}
 use Rattle.txn_table.specs.declared.changes.Change.{Change as Brought}
 use Rattle.txn_table.specs.Table.{change_of, patch_of}
-use Rattle.space_pages.specs.Pages.{BroughtInPart, LieWithin, brought, pages_view}
+use Rattle.space_pages.specs.Pages.{BroughtInPart, LieWithin, LiesInPage, brought, pages_view}
 use Rattle.space_pages.specs.PagesLaws.{brought-append}
 
 -- the change at a place
-pub patch_at : (changes : List Brought) (i : ℕ) (change : Brought) → i < length changes → change ≡ get_or changes i change → LieWithin (map change_of changes) → IsPatch (patch_of change)
+pub patch_at : (changes : List Brought) (i : ℕ) (change : Brought) → i < length changes → change ≡ get_or changes i change → LieWithin (map change_of changes) → LiesInPage (patch_of change)
 patch_at [] i change below read all = absurd (omega arith)
 patch_at (first ∷ changes) zero change below read all = rw read all.0
 patch_at (first ∷ changes) (suc i) change below read all = patch_at changes i change (omega arith) read all.1

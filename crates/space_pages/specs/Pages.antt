@@ -1,9 +1,8 @@
 -- The pages of a space, brought forward by changes.
-use Rattle.std.specs.Prelude.{◌≡◌, ℕ, zero, suc, ◌+◌, ◌++◌, List, [], ◌∷◌, fold, count_by, nat_lt, replicate}
+use Rattle.std.specs.Prelude.{◌≡◌, ℕ, zero, suc, ◌+◌, ◌++◌, List, [], ◌∷◌, fold, count_by, nat_lt, replicate, length, ◌≤◌}
 use Rattle.std.specs.List.{AllByRecursion}
-use Rattle.log_history.specs.History.{History}
+use Rattle.log_history.specs.History.{Patch, History}
 use Rattle.log_history.specs.Effects.{Change, Page, empty_page, page_at, patched, with_change}
-use Rattle.log_record.specs.Layout.{IsPatch}
 
 -- what a caller sees: pages of a space, the number of the first one, and the pages in order
 pub record PagesView : Type 0 where
@@ -48,6 +47,10 @@ pub record BroughtInPart (old : PagesView) (changes : List Change) (new : PagesV
   pub parts : changes ≡ front ++ rest
   pub laid : new ≡ forward old front
 
--- the bytes of each change lie within the payload of a page
+-- a patch's bytes lie within the payload of a page
+abbrev pub LiesInPage : Patch → Type 0
+LiesInPage patch = patch.offset + length patch.bytes ≤ 4080
+
+-- those of each change do
 abbrev pub LieWithin : List Change → Type 0
-LieWithin changes = AllByRecursion (λ change. IsPatch change.patch) changes
+LieWithin changes = AllByRecursion (λ change. LiesInPage change.patch) changes

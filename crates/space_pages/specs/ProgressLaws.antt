@@ -168,7 +168,7 @@ given-patches (reset restore target time) past all = tt
 
 LieWithin-change_by : (x : ℕ) (patches : List Patch) → AllByRecursion IsPatch patches → LieWithin (map (change_by x) patches)
 LieWithin-change_by x [] all = tt
-LieWithin-change_by x (patch ∷ patches) all = (all.0, LieWithin-change_by x patches all.1)
+LieWithin-change_by x (patch ∷ patches) all = (all.0.within, LieWithin-change_by x patches all.1)
 
 -- what a record gives lies within pages, where the records before it have spellings
 pub given_lies_within : (x : ℕ) (past : History) (entry : LogEntry) → AllByRecursion IsRecord past → LieWithin (map (change_by x) (given entry (table_of past)))

@@ -1,10 +1,9 @@
 //! The places of pages: each has its page once a change was laid into it.
 ghost use Rattle.std.specs.Prelude.{◌≡◌, ◌+◌, ◌<◌, ◌≤◌, ◌^◌, ◌⊎◌, [], ◌∷◌, length, map, IsOk, IfOk, OnOk, OnErr, MatchOption, option_copied};
 ghost use Rattle.log_history.specs.Effects.{empty_page};
-ghost use Rattle.log_record.specs.Layout.{IsPatch};
 ghost use Rattle.plain_pages.specs.Page.{page_of};
 ghost use Rattle.txn_table.specs.Table.{change_of, patch_of};
-ghost use Rattle.space_pages.specs.Pages.{BroughtInPart, LieWithin, brought, changed, empty_pages, pages_view, used};
+ghost use Rattle.space_pages.specs.Pages.{BroughtInPart, LieWithin, LiesInPage, brought, changed, empty_pages, pages_view, used};
 ghost use Rattle.space_pages.specs.Slots.{page_in, pages_in, IsPlace};
 
 use plain_pages::Page;
@@ -27,7 +26,7 @@ fn place(first: u32, count: usize, page: u32) -> Option<usize>
 
 /// Lays a change into the page of a place, which is made where there is none.
 fn lay_in(slot: &mut Slot, alloc: Global, change: &Change) -> Result<(), AllocError>
-    requires { IsPatch (patch_of change.now) }
+    requires { LiesInPage (patch_of change.now) }
     ensures ok { OnOk result (page_in slot.new ≡ changed (change_of change.now) (page_in slot.old)) }
     ensures err { OnErr result (page_in slot.new ≡ page_in slot.old) }
 {
@@ -48,7 +47,7 @@ pub(crate) fn lay(
     first: u32,
     change: &Change,
 ) -> Result<(), AllocError>
-    requires { IsPatch (patch_of change.now) }
+    requires { LiesInPage (patch_of change.now) }
     ensures ok { OnOk result (pages_in slots.new.items
         ≡ brought space first (change_of change.now ∷ []) (pages_in slots.old.items)) }
     ensures err { OnErr result (pages_in slots.new.items ≡ pages_in slots.old.items) }

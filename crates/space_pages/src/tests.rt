@@ -1,7 +1,7 @@
 //! Pages never written, a byte at the payload's end, the Writes of two transactions; digests from another program.
 ghost use Rattle.std.specs.Prelude.{◌+◌, ◌<◌, ◌≤◌, length, IfSome};
-ghost use Rattle.log_record.specs.Layout.{IsPatch};
 ghost use Rattle.txn_table.specs.Table.{patch_of};
+ghost use Rattle.space_pages.specs.Pages.{LiesInPage};
 
 use crate::Pages;
 use log_record::Text64;
@@ -13,7 +13,7 @@ fn change(commit: u64, space: u16, page: u32, offset: u16, bytes: &[u8]) -> Opti
     requires space { space < 16 }
     requires page { page < 65536 }
     requires within { offset + length bytes.now ≤ 4080 }
-    ensures { IfSome result (λ c. IsPatch (patch_of c)) }
+    ensures { IfSome result (λ c. LiesInPage (patch_of c)) }
 {
     let bytes = Text64::from_bytes(bytes)?;
     Some(Change {
