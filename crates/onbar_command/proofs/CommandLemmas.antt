@@ -5,11 +5,11 @@ use Rattle.std.proofs.lemmas.List.{take-append-drop, append-nil, length-take-le}
 use Rattle.site_model.specs.declared.disk_name.DiskName.{DiskName}
 use Rattle.site_model.specs.declared.status.Status.{Status}
 use Rattle.site_model.specs.declared.status.Status.TheVariants.{Ok as Done, OutOfMemory, ReadFault, WriteFault, DiskFault, Usage, NotFormatted, AlreadyFormatted, BadRecord, NoSuchSpace, NoSuchPage, LogLost}
-use Rattle.site_model.specs.Commands.{CutsShort, Did, IsOfWork, Printed, PrintsFront, IsFront}
+use Rattle.walks.specs.Follows.{Images}
+use Rattle.site_model.specs.Commands.{CutsShort, Did, IsOfWork, Printed, PrintsFront, IsFront, Start}
 use Rattle.site_model.specs.Openings.{IsOfDisks, IsRefused, IsUsage, OpensFor}
 use Rattle.site_model.specs.OpeningLaws.{one_refusal, opens_unrefused, usage_unrefused}
 use Rattle.site_model.specs.Runs.{CommandResult}
-use Rattle.site_model.specs.Steps.{ImagesOf, Frame}
 use Rattle.site_model.specs.Texts.{status_text}
 use Rattle.site_model.specs.Worlds.{World}
 use Rattle.onbar_command.specs.declared.report.Report.{Report}
@@ -178,16 +178,16 @@ usage_told (Ok (Formatted spaces)) before now no_stop text n is = absurd (cc is)
 usage_told (Ok (PagesShown shown)) before now no_stop text n is = absurd (cc is)
 usage_told (Err status) before now no_stop text n is = text ∙ ap (λ (s : Status). before ++ status_text s) is
 
-module _ (reads : Bool) (run : CommandResult) (after : List ℕ) (contents : DiskName → List ℕ) (era : ℕ) (frame : (World → Type 0) → Frame World) (new : ImagesOf) where
+module _ (reads : Bool) (start : Start) (world : World) (run : CommandResult) (after : List ℕ) (contents : DiskName → List ℕ) (era : ℕ) (new : Images DiskName) where
   -- what isn't told as a stop is done
-  pub is_done : (result : Result Report Status) → Finishes reads run after contents era frame new result → (CutsShort (status_told result) → ⊥)
-      → IsDone reads run after contents era frame new result
+  pub is_done : (result : Result Report Status) → Finishes reads start world run after contents era new result → (CutsShort (status_told result) → ⊥)
+      → IsDone reads start world run after contents era new result
   is_done (Ok told) finishes not_cut = finishes
   is_done (Err status) (inl cut) not_cut = absurd (not_cut cut)
   is_done (Err status) (inr done) not_cut = done
 
-  pub did : (result : Result Report Status) (before now : List ℕ) → Finishes reads run after contents era frame new result → (CutsShort (status_told result) → ⊥)
-      → (tells : Bool) → (IsTrue tells → now ≡ before ++ text_told result) → Did run (status_told result) tells before now contents era frame new
+  pub did : (result : Result Report Status) (before now : List ℕ) → Finishes reads start world run after contents era new result → (CutsShort (status_told result) → ⊥)
+      → (tells : Bool) → (IsTrue tells → now ≡ before ++ text_told result) → Did reads start world run (status_told result) tells before now after contents era new
   did result before now finishes not_cut tells text =
       let done = is_done result finishes not_cut in
       record {
@@ -195,6 +195,7 @@ module _ (reads : Bool) (run : CommandResult) (after : List ℕ) (contents : Dis
         text = λ told. text told ∙ ap (λ (t : List ℕ). before ++ t) (sym done.text);
         reads = done.stands;
         crash = done.crash;
+        script = done.read;
       }
 
   -- a front of a text is printed, and only once the work is done: one that was cut short has none
@@ -214,26 +215,17 @@ module _ (reads : Bool) (run : CommandResult) (after : List ℕ) (contents : Dis
   none_before : (text before now : List ℕ) → TakesFront before now text → text ≡ [] → ⊥
   none_before text before now front none = let is = ap length none in absurd (omega (arith, front.short, is))
 
-  done_front : (result : Result Report Status) (before now : List ℕ) → IsDone reads run after contents era frame new result → TakesFront before now (text_told result)
-      → Printed run before now era frame new
+  done_front : (result : Result Report Status) (before now : List ℕ) → IsDone reads start world run after contents era new result → TakesFront before now (text_told result)
+      → Printed start world run before now era new
   done_front result before now done front =
       let part = front_of (text_told result) before now front in
       record { printed = part.0; text = part.1; after_work = inr (subst (λ (t : List ℕ). IsFront part.0 t) (sym done.text) part.2, done.crash) }
 
-  pub printed_front : (result : Result Report Status) (before now : List ℕ) → Finishes reads run after contents era frame new result → TakesFront before now (text_told result)
-      → Printed run before now era frame new
+  pub printed_front : (result : Result Report Status) (before now : List ℕ) → Finishes reads start world run after contents era new result → TakesFront before now (text_told result)
+      → Printed start world run before now era new
   printed_front (Ok told) before now finishes front = done_front (Ok told) before now finishes front
   printed_front (Err status) before now (inl cut) front = absurd (none_before (status_text status) before now front (no_text status cut))
   printed_front (Err status) before now (inr done) front = done_front (Err status) before now done front
-
-  -- one that was cut short prints nothing
-  pub printed_none : (result : Result Report Status) (before now : List ℕ) → (told_no_stop : IfOk result IsNoStop) → CutsShort (status_told result)
-      → now ≡ before ++ text_told result → Printed run before now era frame new
-  printed_none (Ok (LogExtended told)) before now no_stop cut text = absurd (ends_uncut told.status no_stop cut)
-  printed_none (Ok (Formatted spaces)) before now no_stop cut text = absurd cut
-  printed_none (Ok (PagesShown shown)) before now no_stop cut text = absurd cut
-  printed_none (Err status) before now no_stop cut text =
-      record { printed = []; text = text ∙ ap (λ (t : List ℕ). before ++ t) (no_text status cut); after_work = inl refl }
 
 -- a status that isn't that of the run has a cause
 pub complete_so : (status said : Status) → ((CutsShort status → ⊥) → status ≡ said) → (status ≡ ReadFault → ⊥) → (status ≡ WriteFault → ⊥)

@@ -9,7 +9,7 @@ use Rattle.site_disk.specs.BytesLaws.{extent-one, length-written, torn_whole}
 use Rattle.site_disk.specs.Images.{Leaves, OnlyAfter}
 use Rattle.site_disk.specs.ImagesLaws.{no_more_of}
 use Rattle.gated_slots.specs.Header.{IsHeader, IsClosed, StandsClosed, MayClose, MayOpen}
-use Rattle.gated_slots.specs.HeaderLaws.{extent-header, first_by_extent}
+use Rattle.gated_slots.specs.HeaderLaws.{closed_still, extent-header}
 use Rattle.gated_slots.specs.Slots.{Area, used, first_zero, Zeroes}
 use Rattle.gated_slots.specs.SlotsLaws.{used-zeroes, used_by_gates}
 use Rattle.site_headers.specs.Heads.{Head}
@@ -22,7 +22,7 @@ use Rattle.site_model.specs.Worlds.{unformatted, formatted, new_site}
 use Rattle.onbar_command.specs.declared.site.SiteDisks.{SiteDisks}
 use Rattle.onbar_command.specs.Disks.{images_of}
 use Rattle.onbar_command.specs.Formatting.{MayStandFormatted}
-use Rattle.onbar_command.proofs.HeaderLemmas.{is_header}
+use Rattle.log_reading.proofs.HeaderLemmas.{is_header}
 
 -- a header's page written over the first bytes
 module _ (tail page old : List ℕ) (fills : length tail ≡ 4095) (is : page ≡ 1 ∷ tail) where
@@ -64,16 +64,6 @@ module _ (site : ℕ) (page old zeroed new : List ℕ) (is : page ≡ 1 ∷ log_
 -- the area of the log
 pub zeroes_of_log : (area : Area) (old zeroed : List ℕ) → area ≡ log_area → Zeroes (first_zero area old) area.slots old zeroed → Zeroes (first_zero log_area old) 73728 old zeroed
 zeroes_of_log area old zeroed same = subst (λ (a : Area). Zeroes (first_zero a old) a.slots old zeroed) same
-
--- a write behind the first byte leaves a header closed
-pub closed_still : (old new : List ℕ) → IsClosed old → length old ≤ length new → extent 0 1 new ≡ extent 0 1 old → IsClosed new
-closed_still old new closed le same = record {
-  some = omega (arith, closed.some);
-  gate = first_by_extent old new closed.some le same ∙ closed.gate;
-}
-
-pub closed_by_writing : (old new : List ℕ) → new ≡ written 0 (0 ∷ []) old → IsClosed new
-closed_by_writing old new is = subst IsClosed (sym is) (record { some = omega (arith, length-written 0 (0 ∷ []) old (omega arith)); gate = refl })
 
 -- later images are closed where they are what a read gives
 pub stands_closed : (last : ℕ) (bytes : List ℕ) (images : ℕ → List ℕ → Type 0) → IsClosed bytes → ((f : ℕ) (c : List ℕ) → last < f → images f c → c ≡ bytes) → StandsClosed (record { last = last; bytes = bytes; images = images })

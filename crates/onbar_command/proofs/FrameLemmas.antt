@@ -1,9 +1,7 @@
 -- What a form leaves alone of the disks of a site.
-use Rattle.std.proofs.Common.{◌≡◌, inl, inr, ℕ, ◌+◌, ◌<◌, ◌≤◌, List, refl, sym, subst, arith}
+use Rattle.std.proofs.Common.{◌≡◌, inl, inr, ℕ, ◌≤◌, List, refl, sym, subst, arith}
 use Rattle.std.specs.Prelude.{Result, Ok, Err, OnOk}
-use Rattle.std.proofs.lemmas.Bool.{cases_lt}
 use Rattle.gated_slots.specs.Slots.{OutsideArea}
-use Rattle.log_history.specs.History.{History}
 use Rattle.onbar_grammar.specs.Script.{Space}
 use Rattle.onbar_grammar.specs.Words.{CommandForm, init_form, transactions_form, show_form}
 use Rattle.site_disk.specs.Ledger.{Ledger}
@@ -11,10 +9,8 @@ use Rattle.site_model.specs.declared.disk_name.DiskName.{DiskName}
 use Rattle.site_model.specs.declared.disk_name.DiskName.TheVariants.{Cat, Spare, Boot, Log, Volume, Chunk}
 use Rattle.site_model.specs.Commands.{ImagesWithin, MayChange}
 use Rattle.site_model.specs.Layouts.{log_area}
-use Rattle.site_model.specs.Worlds.{Site}
 use Rattle.onbar_command.specs.declared.site.SiteDisks.{SiteDisks}
 use Rattle.onbar_command.specs.Disks.{contents_of, images_of, AreUnwritten}
-use Rattle.onbar_command.specs.Walks.{LogWalk}
 use Rattle.onbar_command.proofs.InitLemmas.{no_more}
 use Rattle.onbar_command.proofs.SiteLemmas.{in_place, moved, unwritten}
 
@@ -80,37 +76,6 @@ module _ {D : Type 0} (bytes : D → List ℕ) (image : D → ℕ → List ℕ �
   init_reads spaces new same name =
       in_place (λ (disks : SiteDisks D). MayChange (init_form blocks spaces) name (contents_of bytes old name) (contents_of bytes disks name)) _ _ same
       (init_contents spaces new.cat new.log name)
-
--- `-T` reads the catalogue, and fills the log's gates and slots: its walk begins at a log that was synced
-module _ {D : Type 0} (bytes : D → List ℕ) (image : D → ℕ → List ℕ → Type 0) (old : SiteDisks D) (cat log : D) (mid : ℕ → List ℕ → Type 0)
-    (site : Site) (passed : List History) (entry start : ℕ) (second : start ≡ entry + 2)
-    (only : (f : ℕ) (c : List ℕ) → entry + 1 < f → mid f c → c ≡ bytes old.log) (walk : LogWalk site passed start mid (image log)) where
-  pub log_elsewhere : (f : ℕ) (c : List ℕ) → start < f → image log f c → OutsideArea log_area (bytes old.log) c
-  log_elsewhere f c lt is =
-      let from = walk.elsewhere f c lt is in
-      let behind = from.behind in
-      subst (λ (b : List ℕ). OutsideArea log_area b c) (only from.era from.image (omega (arith, second, behind)) from.was) from.elsewhere
-
-  pub log_within : ((f : ℕ) (c : List ℕ) → image cat f c → image old.cat f c) → ((f : ℕ) (c : List ℕ) → mid f c → image old.log f c)
-      → ImagesWithin transactions_form (contents_of bytes old) (images_of image old) (images_of image (moved old cat log))
-  log_within cat_none log_none f Cat c is = inl (cat_none f c is)
-  log_within cat_none log_none f Log c is = elim (cases_lt start f) [
-    | inl behind ↦ inr (log_elsewhere f c behind is)
-    | inr within ↦ inl (log_none f c (walk.earlier f c within is))
-  ]
-  log_within cat_none log_none f Spare c is = inl is
-  log_within cat_none log_none f Boot c is = inl is
-  log_within cat_none log_none f (Volume n) c is = inl is
-  log_within cat_none log_none f (Chunk n) c is = inl is
-
-  pub log_reads : bytes cat ≡ bytes old.cat → (f : ℕ) → start < f → image log f (bytes log)
-      → (name : DiskName) → MayChange transactions_form name (contents_of bytes old name) (contents_of bytes (moved old cat log) name)
-  log_reads same f lt is Cat = same
-  log_reads same f lt is Log = log_elsewhere f (bytes log) lt is
-  log_reads same f lt is Spare = refl
-  log_reads same f lt is Boot = refl
-  log_reads same f lt is (Volume n) = refl
-  log_reads same f lt is (Chunk n) = refl
 
 -- two disks read as before, and the others are the same
 pub reads_same : {D : Type 0} (bytes : D → List ℕ) (old new : SiteDisks D) → new ≡ record old { cat = new.cat; log = new.log }

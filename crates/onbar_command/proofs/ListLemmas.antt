@@ -1,12 +1,7 @@
--- Fronts of lists.
+-- Fronts of a text.
 use Rattle.std.proofs.Common.{◌≡◌, ℕ, ◌+◌, ◌-◌, ◌≤◌, List, ◌++◌, length, take, drop, sym, ◌∙◌, ap, arith, append_assoc, length-drop}
-use Rattle.std.proofs.lemmas.List.{take-append-drop, take-take, drop-take, take_rest}
-
-pub take-add : {A : Type 0} (a n : ℕ) (xs : List A) → take (a + n) xs ≡ take a xs ++ take n (drop a xs)
-take-add {A} a n xs =
-    sym (take-append-drop a (take (a + n) xs))
-    ∙ ap (λ (l : List A). l ++ drop a (take (a + n) xs)) (take-take a (a + n) xs (omega arith))
-    ∙ ap (λ (l : List A). take a xs ++ l) (drop-take a n xs)
+use Rattle.std.proofs.lemmas.List.{take_rest}
+use Rattle.log_reading.proofs.ListLemmas.{take-add}
 
 -- a front of the text, and a front of what is left
 pub front_more : (text begun old new : List ℕ) (at n : ℕ) → old ≡ begun ++ take at text

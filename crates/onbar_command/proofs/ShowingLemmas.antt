@@ -10,10 +10,10 @@ use Rattle.space_pages.specs.Pages.{PagesView, brought, empty_pages, pages_view}
 use Rattle.space_pages.specs.PagesLaws.{changes_make_pages}
 use Rattle.space_pages.specs.Progress.{changes_back, changes_until, given_at}
 use Rattle.space_pages.specs.ProgressLaws.{all_changes, all_live}
-use Rattle.onbar_command.specs.declared.replay.LogState.{LogState}
-use Rattle.onbar_command.specs.declared.replay.View.{View}
+use Rattle.log_reading.specs.declared.replay.LogState.{LogState}
+use Rattle.log_reading.specs.declared.replay.View.{View}
 use Rattle.onbar_command.specs.declared.showing.Stretch.{Stretch}
-use Rattle.onbar_command.specs.Replays.{IsSameView, IsSameViews, IsStateOf, ShowsPages}
+use Rattle.log_reading.specs.Replays.{IsSameView, IsSameViews, IsStateOf, ShowsPages}
 use Rattle.onbar_command.specs.Showing.{pages_at_end, stretch_at, text_of_pages, ShowRefuses}
 use Rattle.onbar_grammar.specs.Script.{Space, place_of}
 use Rattle.site_headers.specs.Heads.{Head, IsHead}
@@ -122,13 +122,6 @@ module _ (seen : Option View) (has : seen ≡ None → ⊥) (pages : PagesView) 
       join : (s : Option View) → (s ≡ None → ⊥) → IfSome s (λ new. pages ≡ new.pages) → IfSome s (λ new. new.pages ≡ meant) → pages ≡ meant
       join None none a b = absurd (none refl)
       join (Some new) none a b = a ∙ b
-
-  pub handed_first : (first : ℕ) → IfSome seen (λ new. new.pages.first ≡ first) → pages.first ≡ first
-  handed_first first are = join seen has handed are
-    where
-      join : (s : Option View) → (s ≡ None → ⊥) → IfSome s (λ new. pages ≡ new.pages) → IfSome s (λ new. new.pages.first ≡ first) → pages.first ≡ first
-      join None none a b = absurd (none refl)
-      join (Some new) none a b = ap (λ (p : PagesView). p.first) a ∙ b
 
 -- the place that was found says what is refused
 pub refused_at : (spaces : List Space) (name : List ℕ) (page : Option ℕ) (found : Option (ℕ × ℕ)) (why : Option Status)

@@ -1,24 +1,11 @@
 -- What the disks of a site hold, by name.
-use Rattle.std.specs.Prelude.{◌≡◌, ◌≤◌, ℕ, List, [], slice_get, Option, None, Some}
+use Rattle.std.specs.Prelude.{◌≡◌, ◌≤◌, ℕ, List, [], slice_get, Bool, Option, None, Some}
 use Rattle.site_disk.specs.Ledger.{EraView, Ledger, MayUse}
+use Rattle.walks.specs.Follows.{Images}
 use Rattle.site_model.specs.declared.disk_name.DiskName.{DiskName}
 use Rattle.site_model.specs.declared.disk_name.DiskName.TheVariants.{Cat, Spare, Boot, Log, Volume, Chunk}
-use Rattle.site_model.specs.Runs.{CommandResult}
-use Rattle.site_model.specs.Steps.{ImagesOf}
-use Rattle.site_model.specs.Stops.{Scene}
-use Rattle.site_model.specs.Worlds.{World}
+use Rattle.site_model.specs.Commands.{Start}
 use Rattle.onbar_command.specs.declared.site.SiteDisks.{SiteDisks}
-
--- nothing was written on a disk: it reads as before, and a crash leaves no more of it
-pub record IsKept (old_ledger new_ledger : Ledger) (old_bytes new_bytes : List ℕ) (old new : ℕ → List ℕ → Type 0) : Type 0 where
-  pub written : new_ledger.written ≤ old_ledger.written
-  pub bytes : new_bytes ≡ old_bytes
-  pub images : (f : ℕ) (c : List ℕ) → new f c → old f c
-
--- nothing was written on a disk, and a crash leaves no more of it; one that failed may read otherwise
-pub record IsUnwritten (old_ledger new_ledger : Ledger) (old new : ℕ → List ℕ → Type 0) : Type 0 where
-  pub written : new_ledger.written ≤ old_ledger.written
-  pub images : (f : ℕ) (c : List ℕ) → new f c → old f c
 
 module _ {D : Type 0} where
   abbrev pub disk_of : SiteDisks D → DiskName → Option D
@@ -42,16 +29,8 @@ module _ {D : Type 0} where
   contents_of bytes disks name = bytes_or bytes (disk_of disks name)
 
   -- what a crash in an era may leave
-  abbrev pub images_of : (D → ℕ → List ℕ → Type 0) → SiteDisks D → ImagesOf
+  abbrev pub images_of : (D → ℕ → List ℕ → Type 0) → SiteDisks D → Images DiskName
   images_of image disks f name contents = image_or image f (disk_of disks name) contents
-
-  abbrev pub synced_or : (D → Ledger) → Option D → ℕ
-  synced_or ledger None = 0
-  synced_or ledger (Some disk) = (ledger disk).synced
-
-  -- no sync of the disk has succeeded since
-  abbrev pub NotSynced : (D → Ledger) → SiteDisks D → SiteDisks D → DiskName → Type 0
-  NotSynced ledger old new name = synced_or ledger (disk_of new name) ≡ synced_or ledger (disk_of old name)
 
   abbrev pub faults_or : (D → Ledger) → Option D → ℕ
   faults_or ledger None = 0
@@ -86,14 +65,6 @@ module _ {D : Type 0} where
     pub written : (name : DiskName) → written_of ledger new name ≤ written_of ledger old name
     pub images : (f : ℕ) (name : DiskName) (c : List ℕ) → images_of image new f name c → images_of image old f name c
 
-  -- a command from one era on: what it makes of a world, and the disks before and after it
-  abbrev pub scene_of : (D → List ℕ) → (D → ℕ → List ℕ → Type 0) → (D → Ledger) → ℕ → SiteDisks D → SiteDisks D → World → CommandResult → Scene
-  scene_of bytes image ledger entry old new world run = record {
-    entry = entry;
-    old = images_of image old;
-    new = images_of image new;
-    contents = contents_of bytes old;
-    rests = NotSynced ledger old new;
-    begin = world;
-    run = run;
-  }
+  -- a command's start: its era, the disks that it uses, and what all disks hold
+  abbrev pub start_of : (D → List ℕ) → (D → ℕ → List ℕ → Type 0) → ℕ → (DiskName → Bool) → SiteDisks D → Start
+  start_of bytes image era used disks = record { era = era; used = used; contents = contents_of bytes disks; images = images_of image disks }

@@ -2,17 +2,16 @@
 use Rattle.std.specs.Prelude.{◌≡◌, ◌⊎◌, ℕ, List, [], ◌++◌, Bool, true, false, Result, Ok, Err}
 use Rattle.std.specs.List.{flat_map}
 use Rattle.onbar_grammar.specs.Words.{Command, CommandForm, init_form, transactions_form, show_form}
+use Rattle.walks.specs.Follows.{Images}
 use Rattle.site_headers.specs.Views.{spaces_of}
 use Rattle.site_model.specs.declared.disk_name.DiskName.{DiskName}
 use Rattle.site_model.specs.declared.status.Status.{Status}
 use Rattle.site_model.specs.declared.status.Status.TheVariants.{Ok as Done}
-use Rattle.site_model.specs.Commands.{CutsShort, AtItsEnd}
-use Rattle.site_model.specs.Layouts.{StandFor}
+use Rattle.site_model.specs.Commands.{CutsShort, AtItsEnd, HasRead, Start, StandOn}
 use Rattle.site_model.specs.Runs.{CommandResult}
-use Rattle.site_model.specs.Steps.{ImagesOf, Frame}
 use Rattle.site_model.specs.Texts.{space_text, counts_text, status_text}
 use Rattle.site_model.specs.Worlds.{World}
-use Rattle.onbar_command.specs.Extending.{IsUncut}
+use Rattle.script_runs.specs.Extending.{IsUncut}
 use Rattle.onbar_command.specs.declared.report.Report.{Report}
 use Rattle.onbar_command.specs.declared.report.Report.TheVariants.{Formatted, Extended as LogExtended, Shown as PagesShown}
 use Rattle.onbar_command.specs.Showing.{text_of_shown, IsWhole}
@@ -29,19 +28,19 @@ text_told (Ok (Formatted spaces)) = flat_map space_text (spaces_of spaces.items)
 text_told (Ok (PagesShown shown)) = text_of_shown shown ++ status_text Done
 text_told (Err status) = status_text status
 
--- the work is done, and only its text is to be printed; a form that reads its script read it to its end at Ok
-pub record IsDone (reads : Bool) (run : CommandResult) (after : List ℕ) (contents : DiskName → List ℕ) (era : ℕ) (frame : (World → Type 0) → Frame World) (new : ImagesOf)
+-- the work is done, and only its text is to be printed; a form that reads its script read it so far as its run goes
+pub record IsDone (reads : Bool) (start : Start) (world : World) (run : CommandResult) (after : List ℕ) (contents : DiskName → List ℕ) (era : ℕ) (new : Images DiskName)
     (result : Result Report Status) : Type 0 where
   pub status : run.status ≡ status_told result
   pub text : run.text ≡ text_told result
-  pub stands : StandFor contents run.last
-  pub crash : AtItsEnd run era frame new
-  pub read : reads ≡ true → status_told result ≡ Done → after ≡ []
+  pub stands : StandOn start.used contents run.last
+  pub crash : AtItsEnd start new era world run
+  pub read : reads ≡ true → HasRead (status_told result) run.left after
 
 -- or it was cut short
-abbrev pub Finishes : Bool → CommandResult → List ℕ → (DiskName → List ℕ) → ℕ → ((World → Type 0) → Frame World) → ImagesOf → Result Report Status → Type 0
-Finishes reads run after contents era frame new (Ok told) = IsDone reads run after contents era frame new (Ok told)
-Finishes reads run after contents era frame new (Err status) = CutsShort status ⊎ IsDone reads run after contents era frame new (Err status)
+abbrev pub Finishes : Bool → Start → World → CommandResult → List ℕ → (DiskName → List ℕ) → ℕ → Images DiskName → Result Report Status → Type 0
+Finishes reads start world run after contents era new (Ok told) = IsDone reads start world run after contents era new (Ok told)
+Finishes reads start world run after contents era new (Err status) = CutsShort status ⊎ IsDone reads start world run after contents era new (Err status)
 
 -- what was done isn't told as a stop
 abbrev pub IsNoStop : Report → Type 0

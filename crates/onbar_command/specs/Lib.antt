@@ -1,14 +1,5 @@
-pub mod Collecting
 pub mod Disks
-pub mod Ends
-pub mod Extending
 pub mod Formatting
 pub mod Forms
-pub mod Logs
-pub mod Openings
 pub mod Printing
-pub mod Replays
-pub mod Scripts
 pub mod Showing
-pub mod ScriptSteps
-pub mod Walks

@@ -4,18 +4,16 @@ ghost use Rattle.onbar_grammar.specs.Words.{Command, command_of};
 ghost use Rattle.script_lines.specs.Cutting.{TakesFront};
 ghost use Rattle.site_disk.specs.Causes.{Rose};
 ghost use Rattle.site_model.specs.declared.disk_name.DiskName.{DiskName};
-ghost use Rattle.site_model.specs.Commands.{CutsShort, Did, ImagesWithin, IsOfWork, IsPassed, IsSound, MayChange, Printed, PrintsFront, ReadsOf, frame_of};
-ghost use Rattle.site_model.specs.Layouts.{StandFor};
+ghost use Rattle.site_model.specs.Commands.{used_by, CutsShort, Did, ImagesWithin, IsOfWork, IsPassed, IsSound, MayChange, Passes, Printed, PrintsFront, ReadsOf, StandOn};
 ghost use Rattle.site_model.specs.Openings.{IsOfDisks, IsOpenable, IsRefused, IsUsage, OpensFor};
 ghost use Rattle.site_model.specs.Runs.{reads_script, run};
-ghost use Rattle.site_model.specs.Steps.{Passes};
 ghost use Rattle.site_model.specs.Stops.{KeepsPromise};
 ghost use Rattle.site_model.specs.Texts.{status_text};
 ghost use Rattle.site_model.specs.Worlds.{World};
 ghost use Rattle.site_model.specs.declared.status.Status.{Status};
 ghost use Rattle.site_model.specs.declared.status.Status.TheVariants.{Usage};
 ghost use Rattle.onbar_command.specs.Forms.{shows_pages};
-ghost use Rattle.onbar_command.specs.Disks.{contents_of, images_of, faults_of, scene_of, AreKept, AreUnwritten, NotSynced, MayUseAll};
+ghost use Rattle.onbar_command.specs.Disks.{contents_of, images_of, faults_of, start_of, AreKept, AreUnwritten, MayUseAll};
 
 use crate::form::run_words;
 use crate::printing::print_all;
@@ -61,30 +59,36 @@ pub fn onbar<R: Threads + Sync, D: Disk + Send, S: Source, K: Sink>(
     // No other status comes: it is cut short, or refused at a word or for its disks, or its work is done.
     ensures answers { CutsShort result ⊎ (IsUsage (map string_bytes words.now) result ⊎ (IsOfDisks result ⊎ IsOfWork result)) }
 
-    // Wherever the command is stopped, each choice of crash images stands for a world of its run.
-    ensures stopped { IsTrue D.is_modelled → (reads_script (command_of (map string_bytes words.now)) ≡ true → IsTrue S.is_modelled) → (world : World) → IsOpenable world → StandFor (contents_of D.bytes site.old.disks) world
-        → Passes (frame_of era.old.number (images_of D.image site.old.disks) (NotSynced D.ledger site.old.disks site.new.disks)
-        (IsPassed world (run (map string_bytes words.now) moment world (S.left script.old)))) (images_of D.image site.new.disks) }
-    // The same in plain words, where the crash images at entry stand for fit worlds.
-    ensures promised { IsTrue D.is_modelled → (reads_script (command_of (map string_bytes words.now)) ≡ true → IsTrue S.is_modelled) → (world : World) → IsOpenable world → StandFor (contents_of D.bytes site.old.disks) world
-        → IsSound era.old.number (images_of D.image site.old.disks)
-        → KeepsPromise (scene_of D.bytes D.image D.ledger era.old.number site.old.disks site.new.disks world (run (map string_bytes words.now) moment world (S.left script.old))) }
-    // At any status but those that cut it short it did what its run says: status, text, disks, and what a crash leaves.
-    ensures whole { IsTrue D.is_modelled → (reads_script (command_of (map string_bytes words.now)) ≡ true → IsTrue S.is_modelled) → (world : World) → IsOpenable world → StandFor (contents_of D.bytes site.old.disks) world
-        → (CutsShort result → ⊥)
-        → Did (run (map string_bytes words.now) moment world (S.left script.old)) result K.is_modelled (K.taken out.old) (K.taken out.new) (contents_of D.bytes site.new.disks) era.new.number
-        (frame_of era.old.number (images_of D.image site.old.disks) (NotSynced D.ledger site.old.disks site.new.disks)) (images_of D.image site.new.disks) }
+    // For every world that the disks which the command uses show, whatever the others hold: wherever it is stopped, each choice of
+    // crash images in which the others show that world too stands for a world of its run. Up to its first era no image is new.
+    ensures stopped { let start = start_of D.bytes D.image era.old.number (used_by (command_of (map string_bytes words.now))) site.old.disks in IsTrue D.is_modelled → (reads_script (command_of (map string_bytes words.now)) ≡ true → IsTrue S.is_modelled)
+        → (world : World) → IsOpenable world → StandOn start.used start.contents world
+        → Passes start (images_of D.image site.new.disks) world (IsPassed world (run (map string_bytes words.now) moment world (S.left script.old))) }
+    // At any status but those that cut it short it did what its run says: status, text, disks, what a crash leaves, and how far
+    // it read its script: at most 65,536 bytes beyond the line at which it ended.
+    ensures whole { let start = start_of D.bytes D.image era.old.number (used_by (command_of (map string_bytes words.now))) site.old.disks in IsTrue D.is_modelled → (reads_script (command_of (map string_bytes words.now)) ≡ true → IsTrue S.is_modelled)
+        → (world : World) → IsOpenable world → StandOn start.used start.contents world → (CutsShort result → ⊥)
+        → Did (reads_script (command_of (map string_bytes words.now))) start world (run (map string_bytes words.now) moment world (S.left script.old)) result
+        K.is_modelled (K.taken out.old) (K.taken out.new) (S.left script.new) (contents_of D.bytes site.new.disks) era.new.number (images_of D.image site.new.disks) }
+    ensures cut { let start = start_of D.bytes D.image era.old.number (used_by (command_of (map string_bytes words.now))) site.old.disks in IsTrue D.is_modelled → (reads_script (command_of (map string_bytes words.now)) ≡ true → IsTrue S.is_modelled) → IsTrue K.is_modelled
+        → (world : World) → IsOpenable world → StandOn start.used start.contents world → CutsShort result
+        → Printed start world (run (map string_bytes words.now) moment world (S.left script.old)) (K.taken out.old) (K.taken out.new) era.new.number (images_of D.image site.new.disks) }
+
+    // Where each choice of crash images at entry stands for a fit world, each choice at exit does, in every era: so the next
+    // command finds what this one needed.
+    ensures sound { IsTrue D.is_modelled → (reads_script (command_of (map string_bytes words.now)) ≡ true → IsTrue S.is_modelled) → IsSound era.old.number (images_of D.image site.old.disks)
+        → (f : ℕ) → era.old.number ≤ f → IsSound f (images_of D.image site.new.disks) }
+    // And each stands for what was there at entry, or for a world that the command passes from one that its disks showed.
+    ensures promised { let start = start_of D.bytes D.image era.old.number (used_by (command_of (map string_bytes words.now))) site.old.disks in IsTrue D.is_modelled → (reads_script (command_of (map string_bytes words.now)) ≡ true → IsTrue S.is_modelled) → IsSound start.era start.images
+        → KeepsPromise start (images_of D.image site.new.disks) (λ world. run (map string_bytes words.now) moment world (S.left script.old)) }
+
     // A form changes of its disks what it may, wherever it is stopped, and leaves all else as it was.
-    ensures images_within { IsTrue D.is_modelled → (reads_script (command_of (map string_bytes words.now)) ≡ true → IsTrue S.is_modelled) → (world : World) → IsOpenable world → StandFor (contents_of D.bytes site.old.disks) world
+    ensures images_within { IsTrue D.is_modelled → (reads_script (command_of (map string_bytes words.now)) ≡ true → IsTrue S.is_modelled) → (world : World) → IsOpenable world → StandOn (used_by (command_of (map string_bytes words.now))) (contents_of D.bytes site.old.disks) world
         → (command : Command) → command_of (map string_bytes words.now) ≡ Ok command
         → ImagesWithin command.form (contents_of D.bytes site.old.disks) (images_of D.image site.old.disks) (images_of D.image site.new.disks) }
-    ensures reads_within { IsTrue D.is_modelled → (reads_script (command_of (map string_bytes words.now)) ≡ true → IsTrue S.is_modelled) → (world : World) → IsOpenable world → StandFor (contents_of D.bytes site.old.disks) world
+    ensures reads_within { IsTrue D.is_modelled → (reads_script (command_of (map string_bytes words.now)) ≡ true → IsTrue S.is_modelled) → (world : World) → IsOpenable world → StandOn (used_by (command_of (map string_bytes words.now))) (contents_of D.bytes site.old.disks) world
         → (CutsShort result → ⊥) → (command : Command) → command_of (map string_bytes words.now) ≡ Ok command
         → (name : DiskName) → MayChange command.form name (contents_of D.bytes site.old.disks name) (contents_of D.bytes site.new.disks name) }
-    ensures cut { IsTrue D.is_modelled → (reads_script (command_of (map string_bytes words.now)) ≡ true → IsTrue S.is_modelled) → IsTrue K.is_modelled → (world : World) → IsOpenable world → StandFor (contents_of D.bytes site.old.disks) world
-        → CutsShort result
-        → Printed (run (map string_bytes words.now) moment world (S.left script.old)) (K.taken out.old) (K.taken out.new) era.new.number
-        (frame_of era.old.number (images_of D.image site.old.disks) (NotSynced D.ledger site.old.disks site.new.disks)) (images_of D.image site.new.disks) }
     ensures script { IsTrue S.is_modelled
         → ReadsOf (map string_bytes words.now) result (S.left script.old) (S.left script.new) }
     ensures usage { (n : ℕ) → command_of (map string_bytes words.now) ≡ Err n
@@ -94,7 +98,8 @@ pub fn onbar<R: Threads + Sync, D: Disk + Send, S: Source, K: Sink>(
     ensures usage_text { IsTrue K.is_modelled → (n : ℕ) → result ≡ Status.Usage n → K.taken out.new ≡ K.taken out.old ++ status_text (Usage n) }
 
     // Where no device, source or sink failed, nothing but want of memory keeps it from what its run says.
-    ensures complete { IsTrue D.is_modelled → (reads_script (command_of (map string_bytes words.now)) ≡ true → IsTrue S.is_modelled) → (world : World) → IsOpenable world → StandFor (contents_of D.bytes site.old.disks) world
+    ensures complete { let start = start_of D.bytes D.image era.old.number (used_by (command_of (map string_bytes words.now))) site.old.disks in IsTrue D.is_modelled → (reads_script (command_of (map string_bytes words.now)) ≡ true → IsTrue S.is_modelled)
+        → (world : World) → IsOpenable world → StandOn start.used start.contents world
         → (Rose (S.faults script.old) (S.faults script.new) → ⊥) → (Rose (K.faults out.old) (K.faults out.new) → ⊥)
         → ((name : DiskName) → Rose (faults_of D.ledger site.old.disks name) (faults_of D.ledger site.new.disks name) → ⊥)
         → (result ≡ (run (map string_bytes words.now) moment world (S.left script.old)).status) ⊎ (result ≡ Status.OutOfMemory) }
@@ -117,7 +122,7 @@ pub fn onbar<R: Threads + Sync, D: Disk + Send, S: Source, K: Sink>(
     ensures log_formatted { reads_script (command_of (map string_bytes words.now)) ≡ false
         → (D.ledger site.new.disks.log).written ≤ (D.ledger site.old.disks.log).written + 77826 }
     ensures log_written { IsTrue D.is_modelled → IsTrue S.is_modelled → reads_script (command_of (map string_bytes words.now)) ≡ true
-        → (world : World) → IsOpenable world → StandFor (contents_of D.bytes site.old.disks) world
+        → (world : World) → IsOpenable world → StandOn (used_by (command_of (map string_bytes words.now))) (contents_of D.bytes site.old.disks) world
         → (D.ledger site.new.disks.log).written + 4097 * era.old.number ≤ (D.ledger site.old.disks.log).written + 4097 * era.new.number }
     ensures others { site.new.disks ≡ record site.old.disks { cat = site.new.disks.cat; log = site.new.disks.log } }
 

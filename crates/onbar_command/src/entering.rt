@@ -31,10 +31,9 @@ fn sync_both<D: Disk>(cat: &mut D, log: &mut D, era: &Era) -> Result<(), DiskNam
 
     ensures fault { OnErr result ((IsErrOf result DiskName.Cat) ⊎ (IsErrOf result DiskName.Log)) }
     ensures cat_failed { IsErrOf result DiskName.Cat
-        → (log.new ≡ log.old) × ((D.ledger cat.new).synced ≡ (D.ledger cat.old).synced) × Rose (D.ledger cat.old).faults (D.ledger cat.new).faults }
+        → (log.new ≡ log.old) × Rose (D.ledger cat.old).faults (D.ledger cat.new).faults }
     ensures log_failed { IsErrOf result DiskName.Log
-        → ((D.ledger log.new).synced ≡ (D.ledger log.old).synced) × Rose (D.ledger log.old).faults (D.ledger log.new).faults }
-    ensures before_log { IsTrue D.is_modelled → IsErrOf result DiskName.Log → OnlyAfter era.now.number (D.bytes cat.old) (D.image cat.new) }
+        → Rose (D.ledger log.old).faults (D.ledger log.new).faults }
 
     ensures cat_bytes_moved { ((D.ledger cat.new).read ≡ (D.ledger cat.old).read) × ((D.ledger cat.new).written ≡ (D.ledger cat.old).written) }
     ensures log_bytes_moved { ((D.ledger log.new).read ≡ (D.ledger log.old).read) × ((D.ledger log.new).written ≡ (D.ledger log.old).written) }
@@ -72,11 +71,6 @@ pub fn find_head<D: Disk>(
     ensures log_none { (f : ℕ) (c : List ℕ) → D.image site.new.disks.log f c → D.image site.old.disks.log f c }
     ensures cat_only { IsTrue D.is_modelled → OnOk result (OnlyAfter (era.old.number + 1) (D.bytes site.old.disks.cat) (D.image site.new.disks.cat)) }
     ensures log_only { IsTrue D.is_modelled → OnOk result (OnlyAfter (era.old.number + 1) (D.bytes site.old.disks.log) (D.image site.new.disks.log)) }
-    // Also where it fails, a disk was synced or left alone.
-    ensures cat_shows { IsTrue D.is_modelled → (f : ℕ) (c : List ℕ) → era.old.number + 1 < f → D.image site.new.disks.cat f c
-        → (c ≡ D.bytes site.old.disks.cat) ⊎ ((D.ledger site.new.disks.cat).synced ≡ (D.ledger site.old.disks.cat).synced) }
-    ensures log_shows { IsTrue D.is_modelled → (f : ℕ) (c : List ℕ) → era.old.number + 1 < f → D.image site.new.disks.log f c
-        → (c ≡ D.bytes site.old.disks.log) ⊎ ((D.ledger site.new.disks.log).synced ≡ (D.ledger site.old.disks.log).synced) }
     ensures cat_bytes { OnOk result (D.bytes site.new.disks.cat ≡ D.bytes site.old.disks.cat) }
     ensures log_bytes { OnOk result (D.bytes site.new.disks.log ≡ D.bytes site.old.disks.log) }
 

@@ -10,24 +10,22 @@ ghost use Rattle.site_headers.specs.Heads.{IsHead};
 ghost use Rattle.site_model.specs.declared.disk_name.DiskName.{DiskName};
 ghost use Rattle.site_model.specs.declared.disk_name.DiskName.TheVariants.{Cat};
 ghost use Rattle.site_model.specs.declared.status.Status.{Status};
-ghost use Rattle.site_model.specs.Commands.{CutsShort, ImagesWithin, IsPassed, IsSound, MayChange, frame_of};
-ghost use Rattle.site_model.specs.Layouts.{HasNoCatalogue, StandFor};
+ghost use Rattle.site_model.specs.Commands.{uses, used_by, CutsShort, ImagesWithin, IsPassed, IsSound, MayChange, Passes, StandOn};
 ghost use Rattle.site_model.specs.Openings.{DisksRefuse, IsOfDisks, IsOpenable, IsOpenFor, IsRefused, IsUsage, OpensFor};
 ghost use Rattle.site_model.specs.Runs.{head_at, is_transactions, reads_script, run, run_form};
-ghost use Rattle.site_model.specs.Steps.{Passes};
 ghost use Rattle.site_model.specs.Stops.{KeepsPromise};
 ghost use Rattle.site_model.specs.Worlds.{World};
-ghost use Rattle.onbar_command.specs.Disks.{contents_of, images_of, faults_of, scene_of, AreKept, AreUnwritten, NotSynced, MayUseAll};
+ghost use Rattle.onbar_command.specs.Disks.{contents_of, images_of, faults_of, start_of, AreKept, AreUnwritten, MayUseAll};
 ghost use Rattle.onbar_command.specs.Forms.{is_show, shows_pages, status_told, Finishes, IsNoStop, IsTellable};
 
 use crate::entering::find_head;
-use crate::extending::extend_log;
 use crate::formatting::SiteFault;
 use crate::report::Report;
 use crate::showing::show_log;
 use crate::site::Site;
 use bsa_descriptor::Text;
 use onbar_words::{Form, WordFault, read_words};
+use script_runs::extend_log;
 use site_disk::{Disk, Era, Source};
 use site_headers::{SiteHead, SpaceHead};
 use site_model::Status;
@@ -54,17 +52,15 @@ fn run_transactions<D: Disk, S: Source>(
     ensures harmless { IsTrue D.is_modelled → (status : Status) → DisksRefuse transactions_form (contents_of D.bytes site.old.disks) status
         → AreUnwritten D.image D.ledger site.old.disks site.new.disks × (source.new ≡ source.old) }
     // The catalogue is as it was, and the log apart from its gates and slots.
-    ensures images_within { IsTrue D.is_modelled → IsTrue S.is_modelled → (world : World) → IsOpenable world → StandFor (contents_of D.bytes site.old.disks) world
+    ensures images_within { IsTrue D.is_modelled → IsTrue S.is_modelled → (world : World) → IsOpenable world → StandOn (uses transactions_form) (contents_of D.bytes site.old.disks) world
         → ImagesWithin transactions_form (contents_of D.bytes site.old.disks) (images_of D.image site.old.disks) (images_of D.image site.new.disks) }
-    ensures reads_within { IsTrue D.is_modelled → IsTrue S.is_modelled → (world : World) → IsOpenable world → StandFor (contents_of D.bytes site.old.disks) world
+    ensures reads_within { IsTrue D.is_modelled → IsTrue S.is_modelled → (world : World) → IsOpenable world → StandOn (uses transactions_form) (contents_of D.bytes site.old.disks) world
         → OnOk result ((name : DiskName) → MayChange transactions_form name (contents_of D.bytes site.old.disks name) (contents_of D.bytes site.new.disks name)) }
 
-    ensures passes { IsTrue D.is_modelled → IsTrue S.is_modelled → (world : World) → IsOpenable world → StandFor (contents_of D.bytes site.old.disks) world
-        → Passes (frame_of era.old.number (images_of D.image site.old.disks) (NotSynced D.ledger site.old.disks site.new.disks)
-        (IsPassed world (run_form moment world (S.left source.old) transactions_form))) (images_of D.image site.new.disks) }
-    ensures finishes { IsTrue D.is_modelled → IsTrue S.is_modelled → (world : World) → IsOpenable world → StandFor (contents_of D.bytes site.old.disks) world
-        → Finishes true (run_form moment world (S.left source.old) transactions_form) (S.left source.new) (contents_of D.bytes site.new.disks) (era.new.number + 1)
-        (frame_of era.old.number (images_of D.image site.old.disks) (NotSynced D.ledger site.old.disks site.new.disks)) (images_of D.image site.new.disks) result }
+    ensures passes { let start = start_of D.bytes D.image era.old.number (uses transactions_form) site.old.disks in IsTrue D.is_modelled → IsTrue S.is_modelled → (world : World) → IsOpenable world → StandOn start.used start.contents world
+        → Passes start (images_of D.image site.new.disks) world (IsPassed world (run_form moment world (S.left source.old) transactions_form)) }
+    ensures finishes { let start = start_of D.bytes D.image era.old.number (uses transactions_form) site.old.disks in IsTrue D.is_modelled → IsTrue S.is_modelled → (world : World) → IsOpenable world → StandOn start.used start.contents world
+        → Finishes true start world (run_form moment world (S.left source.old) transactions_form) (S.left source.new) (contents_of D.bytes site.new.disks) (era.new.number + 1) (images_of D.image site.new.disks) result }
 
     ensures answered { IfErr result (λ status. CutsShort status ⊎ IsOfDisks status) }
     ensures no_stop { IfOk result IsNoStop }
@@ -78,7 +74,7 @@ fn run_transactions<D: Disk, S: Source>(
     ensures cat_read { (D.ledger site.new.disks.cat).read ≤ (D.ledger site.old.disks.cat).read + 4096 }
     ensures cat_written { (D.ledger site.new.disks.cat).written ≤ (D.ledger site.old.disks.cat).written }
     ensures log_read { (D.ledger site.new.disks.log).read ≤ (D.ledger site.old.disks.log).read + 8458240 }
-    ensures log_written { IsTrue D.is_modelled → IsTrue S.is_modelled → (world : World) → IsOpenable world → StandFor (contents_of D.bytes site.old.disks) world
+    ensures log_written { IsTrue D.is_modelled → IsTrue S.is_modelled → (world : World) → IsOpenable world → StandOn (uses transactions_form) (contents_of D.bytes site.old.disks) world
         → (D.ledger site.new.disks.log).written + 4097 * era.old.number ≤ (D.ledger site.old.disks.log).written + 4097 * era.new.number }
     ensures to_end { IsTrue S.is_modelled → IfOk result (λ report. status_told (Ok report) ≡ Status.Ok → S.left source.new ≡ []) }
     ensures taken { IsTrue S.is_modelled → TakesFront (S.left source.old) (S.left source.new) }
@@ -120,12 +116,10 @@ fn run_init<D: Disk>(
     ensures harmless { IsTrue D.is_modelled → (status : Status) → DisksRefuse (init_form blocks (spaces_of spaces.items)) (contents_of D.bytes site.old.disks) status
         → AreUnwritten D.image D.ledger site.old.disks site.new.disks }
 
-    ensures passes { IsTrue D.is_modelled → (world : World) → IsOpenable world → StandFor (contents_of D.bytes site.old.disks) world → (script : List ℕ)
-        → Passes (frame_of era.old.number (images_of D.image site.old.disks) (NotSynced D.ledger site.old.disks site.new.disks)
-        (IsPassed world (run_form moment world script (init_form blocks (spaces_of spaces.items))))) (images_of D.image site.new.disks) }
-    ensures finishes { IsTrue D.is_modelled → (world : World) → IsOpenable world → StandFor (contents_of D.bytes site.old.disks) world → (script after : List ℕ)
-        → Finishes false (run_form moment world script (init_form blocks (spaces_of spaces.items))) after (contents_of D.bytes site.new.disks) (era.new.number + 1)
-        (frame_of era.old.number (images_of D.image site.old.disks) (NotSynced D.ledger site.old.disks site.new.disks)) (images_of D.image site.new.disks) result }
+    ensures passes { let start = start_of D.bytes D.image era.old.number (uses (init_form blocks (spaces_of spaces.items))) site.old.disks in IsTrue D.is_modelled → (world : World) → IsOpenable world → StandOn start.used start.contents world → (script : List ℕ)
+        → Passes start (images_of D.image site.new.disks) world (IsPassed world (run_form moment world script (init_form blocks (spaces_of spaces.items)))) }
+    ensures finishes { let start = start_of D.bytes D.image era.old.number (uses (init_form blocks (spaces_of spaces.items))) site.old.disks in IsTrue D.is_modelled → (world : World) → IsOpenable world → StandOn start.used start.contents world → (script after : List ℕ)
+        → Finishes false start world (run_form moment world script (init_form blocks (spaces_of spaces.items))) after (contents_of D.bytes site.new.disks) (era.new.number + 1) (images_of D.image site.new.disks) result }
 
     ensures answered { IfErr result (λ status. CutsShort status ⊎ IsOfDisks status) }
     ensures no_stop { IfOk result IsNoStop }
@@ -181,12 +175,8 @@ fn run_show<D: Disk>(
     ensures unwritten { AreUnwritten D.image D.ledger site.old.disks site.new.disks }
     ensures reads { OnOk result ((name : DiskName) → contents_of D.bytes site.new.disks name ≡ contents_of D.bytes site.old.disks name) }
 
-    ensures passes { IsTrue D.is_modelled → (world : World) → IsOpenable world → StandFor (contents_of D.bytes site.old.disks) world → (moment : ℕ) (script : List ℕ)
-        → Passes (frame_of era.old.number (images_of D.image site.old.disks) (NotSynced D.ledger site.old.disks site.new.disks)
-        (IsPassed world (run_form moment world script (show_form space page)))) (images_of D.image site.new.disks) }
-    ensures finishes { IsTrue D.is_modelled → (world : World) → IsOpenable world → StandFor (contents_of D.bytes site.old.disks) world → (moment : ℕ) (script after : List ℕ)
-        → Finishes false (run_form moment world script (show_form space page)) after (contents_of D.bytes site.new.disks) (era.new.number + 1)
-        (frame_of era.old.number (images_of D.image site.old.disks) (NotSynced D.ledger site.old.disks site.new.disks)) (images_of D.image site.new.disks) result }
+    ensures finishes { let start = start_of D.bytes D.image era.old.number (uses (show_form space page)) site.old.disks in IsTrue D.is_modelled → (world : World) → IsOpenable world → StandOn start.used start.contents world → (moment : ℕ) (script after : List ℕ)
+        → Finishes false start world (run_form moment world script (show_form space page)) after (contents_of D.bytes site.new.disks) (era.new.number + 1) (images_of D.image site.new.disks) result }
 
     ensures answered { IfErr result (λ status. CutsShort status ⊎ IsOfDisks status) }
     ensures no_stop { IfOk result IsNoStop }
@@ -235,17 +225,15 @@ fn run_form<D: Disk, S: Source>(
 
     ensures harmless { IsTrue D.is_modelled → (status : Status) → DisksRefuse (form_in form) (contents_of D.bytes site.old.disks) status
         → AreUnwritten D.image D.ledger site.old.disks site.new.disks × (source.new ≡ source.old) }
-    ensures images_within { IsTrue D.is_modelled → (is_transactions (form_in form) ≡ true → IsTrue S.is_modelled) → (world : World) → IsOpenable world → StandFor (contents_of D.bytes site.old.disks) world
+    ensures images_within { IsTrue D.is_modelled → (is_transactions (form_in form) ≡ true → IsTrue S.is_modelled) → (world : World) → IsOpenable world → StandOn (uses (form_in form)) (contents_of D.bytes site.old.disks) world
         → ImagesWithin (form_in form) (contents_of D.bytes site.old.disks) (images_of D.image site.old.disks) (images_of D.image site.new.disks) }
-    ensures reads_within { IsTrue D.is_modelled → (is_transactions (form_in form) ≡ true → IsTrue S.is_modelled) → (world : World) → IsOpenable world → StandFor (contents_of D.bytes site.old.disks) world
+    ensures reads_within { IsTrue D.is_modelled → (is_transactions (form_in form) ≡ true → IsTrue S.is_modelled) → (world : World) → IsOpenable world → StandOn (uses (form_in form)) (contents_of D.bytes site.old.disks) world
         → OnOk result ((name : DiskName) → MayChange (form_in form) name (contents_of D.bytes site.old.disks name) (contents_of D.bytes site.new.disks name)) }
 
-    ensures passes { IsTrue D.is_modelled → (is_transactions (form_in form) ≡ true → IsTrue S.is_modelled) → (world : World) → IsOpenable world → StandFor (contents_of D.bytes site.old.disks) world
-        → Passes (frame_of era.old.number (images_of D.image site.old.disks) (NotSynced D.ledger site.old.disks site.new.disks)
-        (IsPassed world (run_form moment world (S.left source.old) (form_in form)))) (images_of D.image site.new.disks) }
-    ensures finishes { IsTrue D.is_modelled → (is_transactions (form_in form) ≡ true → IsTrue S.is_modelled) → (world : World) → IsOpenable world → StandFor (contents_of D.bytes site.old.disks) world
-        → Finishes (is_transactions (form_in form)) (run_form moment world (S.left source.old) (form_in form)) (S.left source.new) (contents_of D.bytes site.new.disks) (era.new.number + 1)
-        (frame_of era.old.number (images_of D.image site.old.disks) (NotSynced D.ledger site.old.disks site.new.disks)) (images_of D.image site.new.disks) result }
+    ensures passes { let start = start_of D.bytes D.image era.old.number (uses (form_in form)) site.old.disks in IsTrue D.is_modelled → (is_transactions (form_in form) ≡ true → IsTrue S.is_modelled) → (world : World) → IsOpenable world → StandOn start.used start.contents world
+        → Passes start (images_of D.image site.new.disks) world (IsPassed world (run_form moment world (S.left source.old) (form_in form))) }
+    ensures finishes { let start = start_of D.bytes D.image era.old.number (uses (form_in form)) site.old.disks in IsTrue D.is_modelled → (is_transactions (form_in form) ≡ true → IsTrue S.is_modelled) → (world : World) → IsOpenable world → StandOn start.used start.contents world
+        → Finishes (is_transactions (form_in form)) start world (run_form moment world (S.left source.old) (form_in form)) (S.left source.new) (contents_of D.bytes site.new.disks) (era.new.number + 1) (images_of D.image site.new.disks) result }
 
     ensures answered { IfErr result (λ status. CutsShort status ⊎ IsOfDisks status) }
     ensures no_stop { IfOk result IsNoStop }
@@ -263,7 +251,7 @@ fn run_form<D: Disk, S: Source>(
     ensures shows_unwritten { is_show (form_in form) ≡ true → AreUnwritten D.image D.ledger site.old.disks site.new.disks }
     ensures log_formatted { is_transactions (form_in form) ≡ false → (D.ledger site.new.disks.log).written ≤ (D.ledger site.old.disks.log).written + 77826 }
     ensures log_written { IsTrue D.is_modelled → IsTrue S.is_modelled → is_transactions (form_in form) ≡ true
-        → (world : World) → IsOpenable world → StandFor (contents_of D.bytes site.old.disks) world
+        → (world : World) → IsOpenable world → StandOn (uses (form_in form)) (contents_of D.bytes site.old.disks) world
         → (D.ledger site.new.disks.log).written + 4097 * era.old.number ≤ (D.ledger site.old.disks.log).written + 4097 * era.new.number }
     ensures unread { is_transactions (form_in form) ≡ false → source.new ≡ source.old }
     ensures to_end { IsTrue S.is_modelled → is_transactions (form_in form) ≡ true → IfOk result (λ report. status_told (Ok report) ≡ Status.Ok → S.left source.new ≡ []) }
@@ -304,22 +292,21 @@ pub fn run_words<D: Disk, S: Source>(
 
     ensures harmless { IsTrue D.is_modelled → (status : Status) → IsRefused (map string_bytes words.now) (contents_of D.bytes site.old.disks) status
         → AreUnwritten D.image D.ledger site.old.disks site.new.disks × (source.new ≡ source.old) }
-    ensures images_within { IsTrue D.is_modelled → (reads_script (command_of (map string_bytes words.now)) ≡ true → IsTrue S.is_modelled) → (world : World) → IsOpenable world → StandFor (contents_of D.bytes site.old.disks) world
+    ensures images_within { IsTrue D.is_modelled → (reads_script (command_of (map string_bytes words.now)) ≡ true → IsTrue S.is_modelled) → (world : World) → IsOpenable world → StandOn (used_by (command_of (map string_bytes words.now))) (contents_of D.bytes site.old.disks) world
         → (command : Command) → command_of (map string_bytes words.now) ≡ Ok command
         → ImagesWithin command.form (contents_of D.bytes site.old.disks) (images_of D.image site.old.disks) (images_of D.image site.new.disks) }
-    ensures reads_within { IsTrue D.is_modelled → (reads_script (command_of (map string_bytes words.now)) ≡ true → IsTrue S.is_modelled) → (world : World) → IsOpenable world → StandFor (contents_of D.bytes site.old.disks) world
+    ensures reads_within { IsTrue D.is_modelled → (reads_script (command_of (map string_bytes words.now)) ≡ true → IsTrue S.is_modelled) → (world : World) → IsOpenable world → StandOn (used_by (command_of (map string_bytes words.now))) (contents_of D.bytes site.old.disks) world
         → (command : Command) → command_of (map string_bytes words.now) ≡ Ok command
         → OnOk result ((name : DiskName) → MayChange command.form name (contents_of D.bytes site.old.disks name) (contents_of D.bytes site.new.disks name)) }
 
-    ensures passes { IsTrue D.is_modelled → (reads_script (command_of (map string_bytes words.now)) ≡ true → IsTrue S.is_modelled) → (world : World) → IsOpenable world → StandFor (contents_of D.bytes site.old.disks) world
-        → Passes (frame_of era.old.number (images_of D.image site.old.disks) (NotSynced D.ledger site.old.disks site.new.disks)
-        (IsPassed world (run (map string_bytes words.now) moment world (S.left source.old)))) (images_of D.image site.new.disks) }
-    ensures promised { IsTrue D.is_modelled → (reads_script (command_of (map string_bytes words.now)) ≡ true → IsTrue S.is_modelled) → (world : World) → IsOpenable world → StandFor (contents_of D.bytes site.old.disks) world
-        → IsSound era.old.number (images_of D.image site.old.disks)
-        → KeepsPromise (scene_of D.bytes D.image D.ledger era.old.number site.old.disks site.new.disks world (run (map string_bytes words.now) moment world (S.left source.old))) }
-    ensures finishes { IsTrue D.is_modelled → (reads_script (command_of (map string_bytes words.now)) ≡ true → IsTrue S.is_modelled) → (world : World) → IsOpenable world → StandFor (contents_of D.bytes site.old.disks) world
-        → Finishes (reads_script (command_of (map string_bytes words.now))) (run (map string_bytes words.now) moment world (S.left source.old)) (S.left source.new) (contents_of D.bytes site.new.disks) (era.new.number + 1)
-        (frame_of era.old.number (images_of D.image site.old.disks) (NotSynced D.ledger site.old.disks site.new.disks)) (images_of D.image site.new.disks) result }
+    ensures passes { let start = start_of D.bytes D.image era.old.number (used_by (command_of (map string_bytes words.now))) site.old.disks in IsTrue D.is_modelled → (reads_script (command_of (map string_bytes words.now)) ≡ true → IsTrue S.is_modelled) → (world : World) → IsOpenable world → StandOn start.used start.contents world
+        → Passes start (images_of D.image site.new.disks) world (IsPassed world (run (map string_bytes words.now) moment world (S.left source.old))) }
+    ensures promised { let start = start_of D.bytes D.image era.old.number (used_by (command_of (map string_bytes words.now))) site.old.disks in IsTrue D.is_modelled → (reads_script (command_of (map string_bytes words.now)) ≡ true → IsTrue S.is_modelled) → IsSound start.era start.images
+        → KeepsPromise start (images_of D.image site.new.disks) (λ world. run (map string_bytes words.now) moment world (S.left source.old)) }
+    ensures sound { IsTrue D.is_modelled → (reads_script (command_of (map string_bytes words.now)) ≡ true → IsTrue S.is_modelled) → IsSound era.old.number (images_of D.image site.old.disks)
+        → (f : ℕ) → era.old.number ≤ f → IsSound f (images_of D.image site.new.disks) }
+    ensures finishes { let start = start_of D.bytes D.image era.old.number (used_by (command_of (map string_bytes words.now))) site.old.disks in IsTrue D.is_modelled → (reads_script (command_of (map string_bytes words.now)) ≡ true → IsTrue S.is_modelled) → (world : World) → IsOpenable world → StandOn start.used start.contents world
+        → Finishes (reads_script (command_of (map string_bytes words.now))) start world (run (map string_bytes words.now) moment world (S.left source.old)) (S.left source.new) (contents_of D.bytes site.new.disks) (era.new.number + 1) (images_of D.image site.new.disks) result }
 
     ensures answered { IfErr result (λ status. CutsShort status ⊎ (IsUsage (map string_bytes words.now) status ⊎ IsOfDisks status)) }
     ensures no_stop { IfOk result IsNoStop }
@@ -340,7 +327,7 @@ pub fn run_words<D: Disk, S: Source>(
     ensures log_formatted { reads_script (command_of (map string_bytes words.now)) ≡ false
         → (D.ledger site.new.disks.log).written ≤ (D.ledger site.old.disks.log).written + 77826 }
     ensures log_written { IsTrue D.is_modelled → IsTrue S.is_modelled → reads_script (command_of (map string_bytes words.now)) ≡ true
-        → (world : World) → IsOpenable world → StandFor (contents_of D.bytes site.old.disks) world
+        → (world : World) → IsOpenable world → StandOn (used_by (command_of (map string_bytes words.now))) (contents_of D.bytes site.old.disks) world
         → (D.ledger site.new.disks.log).written + 4097 * era.old.number ≤ (D.ledger site.old.disks.log).written + 4097 * era.new.number }
     ensures unread { reads_script (command_of (map string_bytes words.now)) ≡ false → source.new ≡ source.old }
     ensures to_end { IsTrue S.is_modelled → reads_script (command_of (map string_bytes words.now)) ≡ true → IfOk result (λ report. status_told (Ok report) ≡ Status.Ok → S.left source.new ≡ []) }

@@ -6,11 +6,11 @@ ghost use Rattle.site_model.specs.Texts.{space_text};
 ghost use Rattle.onbar_command.specs.Forms.{text_told, status_told, IsTellable};
 ghost use Rattle.onbar_command.specs.Showing.{text_of_shown, IsWhole};
 
-use crate::extending::Extended;
 use crate::showing::Shown;
 use crate::text::{counts_line, push_space_line, status_line};
 use page_texts::{page_text, pages_text};
 use plain_pages::Page;
+use script_runs::Extended;
 use site_headers::SpaceHead;
 use site_model::Status;
 use std::alloc::{AllocError, Global};

@@ -129,6 +129,9 @@ impl Lines {
         // Each line has a byte at least, so that a script ends.
         ensures advances { result ≡ Ok true → self.old.begun < self.new.begun }
         ensures script_limit { self.new.begun ≤ 16777216 }
+
+        // At most one buffer is read ahead.
+        ensures ahead { length self.new.held ≤ 65536 }
     {
         self.forget_line();
         let line = self.find_line(source)?;
@@ -154,6 +157,7 @@ impl Lines {
         ensures within_limits { IfOk result (λ line.
             fault_at self.now.begun line.len (spelled_len line.len line.is_ended) ≡ None) }
         ensures script_limit { self.now.begun ≤ 16777216 }
+        ensures ahead { length self.now.held ≤ 65536 }
 
         // Only a limit is answered, since no count of faults rises.
         ensures cause { IfErr result (Explains self.now 0 0) }
@@ -172,6 +176,7 @@ impl Lines {
         ensures no_more { result ≡ Ok false → self.new.held ≡ self.old.held }
         ensures at_end { IsTrue S.is_modelled → result ≡ Ok false → S.left source.new ≡ [] }
         ensures script_limit { self.new.begun ≤ 16777216 }
+        ensures ahead { length self.new.held ≤ 65536 }
         ensures later { S.faults source.old ≤ S.faults source.new }
         ensures cause { IfErr result (Explains self.new (S.faults source.old) (S.faults source.new)) }
     {
@@ -196,6 +201,7 @@ impl Lines {
         ensures at_end { IsTrue S.is_modelled
             → IfOk result (λ line. line.is_ended ≡ false → S.left source.new ≡ []) }
         ensures script_limit { self.new.begun ≤ 16777216 }
+        ensures ahead { length self.new.held ≤ 65536 }
         ensures later { S.faults source.old ≤ S.faults source.new }
         ensures cause { IfErr result (Explains self.new (S.faults source.old) (S.faults source.new)) }
     {

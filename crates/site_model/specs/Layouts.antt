@@ -1,5 +1,5 @@
 -- What each disk shows of a world.
-use Rattle.std.specs.Prelude.{◌≡◌, ℕ, ◌<◌, ◌≤◌, List, length}
+use Rattle.std.specs.Prelude.{◌≡◌, ℕ, ◌≤◌, List, length}
 use Rattle.std.specs.List.{AllByRecursion, flat_map}
 use Rattle.log_record.specs.Layout.{IsRecord, spelling}
 use Rattle.site_headers.specs.Heads.{Head, IsHead}

@@ -5,10 +5,10 @@ pub mod Texts
 pub mod Runs
 pub mod Openings
 pub mod OpeningLaws
-pub mod RunsLaws
-pub mod Steps
 pub mod Commands
 pub mod Stops
+pub mod RunsKeep
+pub mod LineLaws
 pub mod OpenRunsLaws
 pub mod Spelled
 pub mod LogLaws

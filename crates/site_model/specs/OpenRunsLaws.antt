@@ -1,25 +1,22 @@
--- A law of runs: from a world whose site can be opened a run comes to such worlds alone. So the next command goes on from
--- wherever a command ended or was stopped.
-use Rattle.std.specs.Prelude.{◌≡◌, ◌⊎◌, ℕ, suc, ◌+◌, ◌==◌, List, [], ◌∷◌, ◌++◌, length, map, reverse, Bool, true, false, ◌||◌, if◌then◌else◌, max, Option, None, Some, Result, Ok, Err, refl}
-use Rattle.std.specs.List.{AllByRecursion}
+-- Laws of runs: from a world whose site can be opened a run comes to such worlds alone, and from a fit world to fit worlds; so the
+-- next command goes on from wherever a command ended or was stopped. And a log only grows.
+use Rattle.std.specs.Prelude.{◌≡◌, ℕ, List, [], ◌∷◌, ◌++◌, length, Bool, false, if◌then◌else◌, Option, None, Some, Ok, refl}
 use Rattle.std.specs.Option.{option_or, is_some}
-use Rattle.std.proofs.Common.{arith, ap, sym, subst, ◌∙◌, append_assoc, length-append, inl, inr, ⊎_elim}
+use Rattle.std.proofs.Common.{ap, sym, subst, ◌≤◌, ◌∙◌, append_assoc}
 use Rattle.std.proofs.lemmas.List.{append-nil, length-reverse}
-use Rattle.log_history.specs.History.{LogEntry, History, begin, write, commit, abort, reset}
-use Rattle.log_history.specs.Transactions.{Table, table_of, after, refusal, unless_new, lookup}
-use Rattle.txn_table.specs.TableLaws.{reverse_push, table_of-push}
-use Rattle.onbar_grammar.specs.declared.Why.{Why}
-use Rattle.onbar_grammar.specs.Script.{Raw, Space, Line, begin_line, write_line, commit_line, abort_line, line_fault, line_of, entry_of_line, spelled, raw_lines, place_of}
-use Rattle.onbar_grammar.specs.Words.{CommandForm, init_form, transactions_form, show_form}
-use Rattle.site_headers.specs.Heads.{IsHead}
-use Rattle.site_model.specs.declared.status.Status.{Status}
-use Rattle.site_model.specs.declared.status.Status.TheVariants.{Ok as Done, ScriptFault, LogFull}
-use Rattle.site_model.specs.declared.status.LogFull.TheVariants.{Positions}
-use Rattle.site_model.specs.Commands.{IsAmong, IsPassed}
-use Rattle.site_model.specs.Openings.{GoesBack, AllGoBack, is_out_of_order, out_of_order_back, first_out_of_order, CanOpen, IsOpenable, IsOpenableSite}
-use Rattle.site_model.specs.Runs.{Collected, ScriptState, Ending, Outcome, goes_on, ends, Taken, nothing, joined, bad, unless_refused, join, take_meaning, take_text, ended, ends_at, appended, is_full, after_batch, after_taken, after_fault, step_line, go_on, run_lines, first_state, head_at, run_form, transactions, show_refusal, shown_text, unless_unshown}
+use Rattle.log_history.specs.History.{LogEntry, History}
+use Rattle.log_history.specs.Transactions.{Table, table_of, refusal, last_time, InOrderBack}
+use Rattle.txn_table.specs.TableLaws.{reverse_push}
+use Rattle.onbar_grammar.specs.Script.{Line, begin_line, write_line, commit_line, abort_line, line_of, entry_of_line}
+use Rattle.onbar_grammar.specs.Words.{CommandForm}
+use Rattle.site_headers.specs.Heads.{Head, IsHead}
+use Rattle.site_model.specs.Commands.{IsPassed}
+use Rattle.site_model.specs.LineLaws.{line_within, line_follows}
+use Rattle.site_model.specs.Openings.{GoesBack, AllGoBack, is_out_of_order, out_of_order_back, first_out_of_order, CanOpen, IsOpenable}
+use Rattle.site_model.specs.Runs.{run_form}
+use Rattle.site_model.specs.RunsKeep.{MakesAHead, passed_keep, last_keeps}
 use Rattle.site_model.specs.Spelled.{AllByRecursion-append}
-use Rattle.site_model.specs.Worlds.{Site, World, unformatted, formatted, with_history}
+use Rattle.site_model.specs.Worlds.{Site, World, unformatted, formatted, new_site, with_history, IsWithin, IsFit}
 
 -- where a record stands that is the first out_of_order one
 abbrev pub out_of_order_at : LogEntry → Table → ℕ → Option ℕ
@@ -51,194 +48,80 @@ goes_back before time (write_line txn patch) = tt
 goes_back before time (commit_line txn) = tt
 goes_back before time (abort_line txn) = tt
 
--- what is collected goes on from a log
-record Follows (history : History) (c : Collected) : Type 0 where
-  table : c.table ≡ table_of (history ++ c.batch)
-  opens : CanOpen (history ++ c.batch)
+module _ (moment : ℕ) (world : World) (script : List ℕ) (form : CommandForm) (head : MakesAHead moment form) where
+  open_made : IsOpenable unformatted → (head : Head) → IsHead head → IsOpenable (formatted (new_site head))
+  open_made opens head is = record { head = is; log = record { back = tt; in_order = refl } }
 
--- a place of a run whose logs, present and passed, can be opened
-record IsOpenState (place : ScriptState) : Type 0 where
-  follows : Follows place.history place.collected
-  stands : CanOpen place.history
-  before : AllByRecursion CanOpen place.passed
+  open_push : (site : Site) (history : History) (text : List ℕ) (line : Line) (time : ℕ) → line_of site.head.spaces text ≡ Ok (Some line)
+      → last_time history ≤ time → refusal (entry_of_line time line) (table_of history) ≡ None
+      → IsOpenable (with_history site history) → IsOpenable (with_history site (history ++ entry_of_line time line ∷ []))
+  open_push site history text line time says le none opens = record {
+    head = opens.head;
+    log = can_push history (entry_of_line time line) opens.log (goes_back (length history) time line) (is_in_order time line (table_of history) none);
+  }
 
-record EndsOpen (ending : Ending) : Type 0 where
-  passed : AllByRecursion CanOpen ending.passed
-  last : CanOpen ending.last
+  -- each world of the run of a form can be opened, and the last one
+  pub run_form_open : IsOpenable world → (other : World) → IsPassed world (run_form moment world script form) other → IsOpenable other
+  run_form_open = passed_keep IsOpenable open_made open_push moment world script form head
 
-appended_open : (place : ScriptState) → IsOpenState place → IsOpenState (appended place)
-appended_open place is =
-    let history = place.history ++ place.collected.batch in
-    record {
-      follows = record {
-        table = is.follows.table ∙ ap table_of (sym (append-nil history));
-        opens = subst CanOpen (sym (append-nil history)) is.follows.opens;
-      };
-      stands = is.follows.opens;
-      before = AllByRecursion-append CanOpen place.passed (history ∷ []) is.before (is.follows.opens, tt);
-    }
+  pub run_form_end_open : IsOpenable world → IsOpenable (run_form moment world script form).last
+  run_form_end_open = last_keeps IsOpenable open_made open_push moment world script form head
 
-ended_open : (status : Status) (place : ScriptState) → IsOpenState place → EndsOpen (ended status place)
-ended_open status place is = by (length place.collected.batch == 0) (is_full place)
-  where
-    here : (s : Status) → EndsOpen (ends_at s place)
-    here s = record { passed = is.before; last = is.stands }
+  fit_made : IsFit unformatted → (head : Head) → IsHead head → IsFit (formatted (new_site head))
+  fit_made fit head is = record { head = is; order = tt; within = tt }
 
-    more : EndsOpen (ends_at status (appended place))
-    more = let next = appended_open place is in record { passed = next.before; last = next.stands }
+  fit_push : (site : Site) (history : History) (text : List ℕ) (line : Line) (time : ℕ) → line_of site.head.spaces text ≡ Ok (Some line)
+      → last_time history ≤ time → refusal (entry_of_line time line) (table_of history) ≡ None
+      → IsFit (with_history site history) → IsFit (with_history site (history ++ entry_of_line time line ∷ []))
+  fit_push site history text line time says le none fit =
+      let entry = entry_of_line time line in
+      record {
+        head = fit.head;
+        order = subst InOrderBack (sym (reverse_push history entry)) (line_follows history time line le none, fit.order);
+        within = AllByRecursion-append (IsWithin site.head.spaces) history (entry ∷ []) fit.within (line_within site.head.spaces time text line says, tt);
+      }
 
-    by : (none full : Bool)
-        → EndsOpen (if none then ends_at status place else (if full then ends_at (LogFull (Positions (length place.history))) place else ends_at status (appended place)))
-    by true full = here status
-    by false true = here (LogFull (Positions (length place.history)))
-    by false false = more
+  -- each is fit
+  pub run_form_fit : IsFit world → (other : World) → IsPassed world (run_form moment world script form) other → IsFit other
+  run_form_fit = passed_keep IsFit fit_made fit_push moment world script form head
 
-abbrev GoesOnOpen : Outcome → Type 0
-GoesOnOpen (goes_on place) = IsOpenState place
-GoesOnOpen (ends ending) = EndsOpen ending
+  pub run_form_end_fit : IsFit world → IsFit (run_form moment world script form).last
+  run_form_end_fit = last_keeps IsFit fit_made fit_push moment world script form head
 
-after_batch_open : (place : ScriptState) → IsOpenState place → GoesOnOpen (after_batch place)
-after_batch_open place is = by (is_full place)
-  where
-    by : (full : Bool) → GoesOnOpen (if full then ends (ended Done place) else goes_on (appended place))
-    by true = ended_open Done place is
-    by false = appended_open place is
+-- a world has the site of another one, and its log with more records, or none
+abbrev pub Extends : World → World → Type 0
+Extends unformatted other = Unit {0}
+Extends (formatted site) other = (more : History) × (other ≡ with_history site (site.history ++ more))
 
--- what a line does behind a log that can be opened
-abbrev TakesOpen : History → Taken → Type 0
-TakesOpen history nothing = Unit {0}
-TakesOpen history (joined collected whole) = Follows history collected
-TakesOpen history (bad why) = Unit {0}
+abbrev with_entry : LogEntry → World → World
+with_entry entry unformatted = unformatted
+with_entry entry (formatted site) = with_history site (site.history ++ entry ∷ [])
 
-join_open : (moment : ℕ) (history : History) (c : Collected) (line : Line) → Follows history c
-    → TakesOpen history (unless_refused (refusal (entry_of_line (max moment c.time) line) c.table) (join (length history) line (entry_of_line (max moment c.time) line) c))
-join_open moment history c line follows = by (refusal entry c.table) refl
-  where
-    entry : LogEntry
-    entry = entry_of_line (max moment c.time) line
+extends_itself : (world : World) → Extends world world
+extends_itself unformatted = tt
+extends_itself (formatted site) = ([], ap (with_history site) (sym (append-nil site.history)))
 
-    by : (refused : Option _) → refusal entry c.table ≡ refused → TakesOpen history (unless_refused refused (join (length history) line entry c))
-    by (Some r) is = tt
-    by None is = record {
-      table =
-          ap (λ (n : ℕ). after n entry c.table) (let n : length history + length c.batch + 1 ≡ suc (length (history ++ c.batch)) = omega (arith, length-append history c.batch) in n)
-          ∙ ap (after (suc (length (history ++ c.batch))) entry) follows.table
-          ∙ sym (table_of-push (history ++ c.batch) entry)
-          ∙ ap table_of (append_assoc history c.batch (entry ∷ []));
-      opens = subst CanOpen (append_assoc history c.batch (entry ∷ []))
-          (can_push (history ++ c.batch) entry follows.opens (goes_back (length (history ++ c.batch)) (max moment c.time) line)
-          (is_in_order (max moment c.time) line (table_of (history ++ c.batch)) (ap (refusal entry) (sym follows.table) ∙ is)));
-    }
+module _ (moment : ℕ) (script : List ℕ) (form : CommandForm) (head : MakesAHead moment form) where
+  extends_made : (world : World) → Extends world unformatted → (head : Head) → IsHead head → Extends world (formatted (new_site head))
+  extends_made unformatted none head is = tt
+  extends_made (formatted site) none head is = absurd (not_so none.1)
+    where
+      not_so : unformatted ≡ with_history site (site.history ++ none.0) → ⊥
+      not_so same = cc same
 
-take_open : (moment : ℕ) (history : History) (c : Collected) (meaning : Result (Option Line) Why) → Follows history c → TakesOpen history (take_meaning moment (length history) c meaning)
-take_open moment history c (Err why) follows = tt
-take_open moment history c (Ok None) follows = tt
-take_open moment history c (Ok (Some line)) follows = join_open moment history c line follows
+  extends_push : (world : World) (site : Site) (history : History) (text : List ℕ) (line : Line) (time : ℕ) → line_of site.head.spaces text ≡ Ok (Some line)
+      → last_time history ≤ time → refusal (entry_of_line time line) (table_of history) ≡ None
+      → Extends world (with_history site history) → Extends world (with_history site (history ++ entry_of_line time line ∷ []))
+  extends_push unformatted site history text line time says le none extends = tt
+  extends_push (formatted begun) site history text line time says le none extends =
+      let entry = entry_of_line time line in (
+        extends.0 ++ entry ∷ [],
+        ap (with_entry entry) extends.1 ∙ ap (with_history begun) (append_assoc begun.history extends.0 (entry ∷ [])),
+      )
 
-after_taken_open : (place : ScriptState) (taken : Taken) → IsOpenState place → TakesOpen place.history taken → GoesOnOpen (after_taken place taken)
-after_taken_open place nothing is takes = is
-after_taken_open place (joined collected whole) is takes = by whole
-  where
-    next : IsOpenState (record place { collected = collected })
-    next = record { follows = takes; stands = is.stands; before = is.before }
+  -- each world of a run has the log of before, and more
+  pub run_form_extends : (world other : World) → IsPassed world (run_form moment world script form) other → Extends world other
+  run_form_extends world = passed_keep (Extends world) (extends_made world) (extends_push world) moment world script form head (extends_itself world)
 
-    by : (w : Bool) → GoesOnOpen (if w then after_batch (record place { collected = collected }) else goes_on (record place { collected = collected }))
-    by true = after_batch_open (record place { collected = collected }) next
-    by false = next
-after_taken_open place (bad why) is takes = ended_open (ScriptFault place.lines why) place is
-
-step_open : (spaces : List Space) (moment : ℕ) (place : ScriptState) (line : Raw) (fault : Option Why) → IsOpenState place → GoesOnOpen (after_fault spaces moment place line fault)
-step_open spaces moment place line (Some why) is = ended_open (ScriptFault place.lines why) place is
-step_open spaces moment place line None is =
-    let here : ScriptState = record place { begun = place.begun + length (spelled line) } in
-    after_taken_open here (take_text spaces moment (length place.history) place.collected line.text)
-    (record { follows = is.follows; stands = is.stands; before = is.before })
-    (take_open moment place.history place.collected (line_of spaces line.text) is.follows)
-
-run_lines_open : (spaces : List Space) (moment : ℕ) (lines : List Raw) (place : ScriptState) → IsOpenState place → EndsOpen (run_lines spaces moment lines place)
-run_lines_open spaces moment [] place is = ended_open Done place is
-run_lines_open spaces moment (line ∷ lines) place is =
-    by (step_line spaces moment place line)
-    (step_open spaces moment (record place { lines = place.lines + 1 }) line (line_fault place.begun line) (record { follows = is.follows; stands = is.stands; before = is.before }))
-    (λ next. run_lines_open spaces moment lines next)
-  where
-    by : (outcome : Outcome) → GoesOnOpen outcome → ((next : ScriptState) → IsOpenState next → EndsOpen (run_lines spaces moment lines next))
-        → EndsOpen (go_on (λ next. run_lines spaces moment lines next) outcome)
-    by (goes_on next) on rest = rest next on
-    by (ends ending) on rest = on
-
-begins_open : (history : History) → CanOpen history → IsOpenState (first_state history)
-begins_open history can = record {
-  follows = record { table = ap table_of (sym (append-nil history)); opens = subst CanOpen (sym (append-nil history)) can };
-  stands = can;
-  before = tt;
-}
-
-among_open : (site : Site) (passed : List History) (world : World) → IsOpenableSite site → AllByRecursion CanOpen passed → IsAmong (map (with_history site) passed) world
-    → IsOpenable world
-among_open site [] world open_site all is = absurd is
-among_open site (first ∷ others) world open_site all is = ⊎_elim
-    (λ here. subst IsOpenable (sym here) (record { head = open_site.head; log = all.0 }))
-    (λ there. among_open site others world open_site all.1 there)
-    is
-
--- each world of the run of a script can be opened
-pub transactions_open : (moment : ℕ) (site : Site) (script : List ℕ) → IsOpenableSite site → (world : World)
-    → IsPassed (formatted site) (transactions moment site script) world → IsOpenable world
-transactions_open moment site script open_site world is =
-    let ends_so = run_lines_open site.head.spaces moment (raw_lines script) (first_state site.history) (begins_open site.history open_site.log) in
-    ⊎_elim
-    (λ begin_world. subst IsOpenable (sym begin_world) open_site)
-    (λ there. among_open site (run_lines site.head.spaces moment (raw_lines script) (first_state site.history)).passed world open_site ends_so.passed there)
-    is
-
--- and so can the last one
-pub transactions_end_open : (moment : ℕ) (site : Site) (script : List ℕ) → IsOpenableSite site → IsOpenable (transactions moment site script).last
-transactions_end_open moment site script open_site =
-    record {
-      head = open_site.head;
-      log = (run_lines_open site.head.spaces moment (raw_lines script) (first_state site.history) (begins_open site.history open_site.log)).last;
-    }
-
--- what `-init` says is the head of a site
-abbrev pub MakesAHead : ℕ → CommandForm → Type 0
-MakesAHead moment (init_form blocks spaces) = IsHead (head_at moment blocks spaces)
-MakesAHead moment transactions_form = Unit {0}
-MakesAHead moment (show_form space page) = Unit {0}
-
-showing_open : (site : Site) (text : List ℕ) (refusal_of : Option Status) → IsOpenableSite site → (other : World)
-    → IsPassed (formatted site) (unless_unshown site text refusal_of) other → IsOpenable other
-showing_open site text (Some status) opens other is = ⊎_elim (λ begin_world. subst IsOpenable (sym begin_world) opens) (λ none. absurd none) is
-showing_open site text None opens other is = ⊎_elim (λ begin_world. subst IsOpenable (sym begin_world) opens) (λ none. absurd none) is
-
-showing_end_open : (site : Site) (text : List ℕ) (refusal_of : Option Status) → IsOpenableSite site → IsOpenable (unless_unshown site text refusal_of).last
-showing_end_open site text (Some status) opens = opens
-showing_end_open site text None opens = opens
-
--- each world of the run of a form can be opened
-pub run_form_open : (moment : ℕ) (world : World) (script : List ℕ) (form : CommandForm) → MakesAHead moment form → IsOpenable world
-    → (other : World) → IsPassed world (run_form moment world script form) other → IsOpenable other
-run_form_open moment unformatted script (init_form blocks spaces) head opens other is = ⊎_elim
-    (λ begin_world. subst IsOpenable (sym begin_world) tt)
-    (λ there. ⊎_elim (λ made. subst IsOpenable (sym made) (record { head = head; log = record { back = tt; in_order = refl } })) (λ none. absurd none) there)
-    is
-run_form_open moment (formatted site) script (init_form blocks spaces) head opens other is =
-    ⊎_elim (λ begin_world. subst IsOpenable (sym begin_world) opens) (λ none. absurd none) is
-run_form_open moment unformatted script transactions_form head opens other is =
-    ⊎_elim (λ begin_world. subst IsOpenable (sym begin_world) opens) (λ none. absurd none) is
-run_form_open moment (formatted site) script transactions_form head opens other is = transactions_open moment site script opens other is
-run_form_open moment unformatted script (show_form name page) head opens other is =
-    ⊎_elim (λ begin_world. subst IsOpenable (sym begin_world) opens) (λ none. absurd none) is
-run_form_open moment (formatted site) script (show_form name page) head opens other is =
-    showing_open site (shown_text site.history name page (place_of name site.head.spaces)) (show_refusal site.head.spaces name page) opens other is
-
--- and so can the last one
-pub run_form_end_open : (moment : ℕ) (world : World) (script : List ℕ) (form : CommandForm) → MakesAHead moment form → IsOpenable world
-    → IsOpenable (run_form moment world script form).last
-run_form_end_open moment unformatted script (init_form blocks spaces) head opens = record { head = head; log = record { back = tt; in_order = refl } }
-run_form_end_open moment (formatted site) script (init_form blocks spaces) head opens = opens
-run_form_end_open moment unformatted script transactions_form head opens = opens
-run_form_end_open moment (formatted site) script transactions_form head opens = transactions_end_open moment site script opens
-run_form_end_open moment unformatted script (show_form name page) head opens = opens
-run_form_end_open moment (formatted site) script (show_form name page) head opens =
-    showing_end_open site (shown_text site.history name page (place_of name site.head.spaces)) (show_refusal site.head.spaces name page) opens
+  pub run_form_end_extends : (world : World) → Extends world (run_form moment world script form).last
+  run_form_end_extends world = last_keeps (Extends world) (extends_made world) (extends_push world) moment world script form head (extends_itself world)

@@ -1,12 +1,12 @@
 -- Laws of what can be opened: each fit site can; what a log reads as is one history; what refuses it is one place.
-use Rattle.std.specs.Prelude.{◌≡◌, ◌⊎◌, ℕ, zero, suc, ◌+◌, ◌*◌, ◌<◌, ◌≤◌, List, [], ◌∷◌, ◌++◌, length, take, drop, reverse, Bool, true, false, if◌then◌else◌, Option, None, Some, refl}
+use Rattle.std.specs.Prelude.{◌≡◌, ℕ, zero, suc, ◌+◌, ◌*◌, ◌<◌, ◌≤◌, List, [], ◌∷◌, ◌++◌, length, take, drop, reverse, false, Option, None, Some, refl}
 use Rattle.std.specs.List.{AllByRecursion, flat_map}
-use Rattle.std.specs.Option.{option_or, is_some}
+use Rattle.std.specs.Option.{is_some}
 use Rattle.std.proofs.Common.{arith, ap, sym, subst, ◌∙◌, append_assoc, ⊎_elim, inl, inr}
 use Rattle.std.proofs.lemmas.List.{take_at, drop_at, append-nil, reverse-append, length-reverse}
-use Rattle.std.proofs.lemmas.Bool.{cases_lt, cases_order}
+use Rattle.std.proofs.lemmas.Bool.{cases_order}
 use Rattle.log_history.specs.History.{LogEntry, History, begin, write, commit, abort, reset}
-use Rattle.log_history.specs.Transactions.{MayFollow, InOrderBack, InOrder, refusal, table_back, table_of, unless_new, lookup}
+use Rattle.log_history.specs.Transactions.{MayFollow, InOrderBack, InOrder, table_back}
 use Rattle.log_record.specs.Layout.{IsRecord, spelling}
 use Rattle.log_record.specs.LayoutLaws.{one_spelling_of, length-spelling}
 use Rattle.txn_table.specs.OrderLaws.{may_follow_not_refused}
@@ -25,9 +25,9 @@ use Rattle.site_model.specs.declared.status.Status.TheVariants.{BadRecord}
 use Rattle.site_model.specs.Runs.{show_refusal}
 use Rattle.gated_slots.specs.Slots.{used}
 use Rattle.site_model.specs.Layouts.{HasNoCatalogue, HoldsLog, StandFor, log_area}
-use Rattle.site_model.specs.Openings.{GoesBack, AllGoBack, is_out_of_order, out_of_order_back, first_out_of_order, CanOpen, IsOpenableSite, IsOpenable, Reads, IsBadSlot, IsStraySlot, IsBadPlace, LogRefuses, Check, formatted_site, unformatted_site, shown_place, open_log, Refuses, Allows, RefusedBy, checks_of, DisksRefuse, IsOpenFor, OpensFor, IsRefused}
+use Rattle.site_model.specs.Openings.{GoesBack, AllGoBack, is_out_of_order, out_of_order_back, first_out_of_order, CanOpen, IsOpenable, Reads, IsBadSlot, IsStraySlot, IsBadPlace, LogRefuses, Check, formatted_site, unformatted_site, shown_place, open_log, Refuses, Allows, RefusedBy, checks_of, DisksRefuse, IsOpenFor, OpensFor, IsRefused}
 use Rattle.site_model.specs.Spelled.{AllByRecursion-append_right, length-spelled, spelled_part}
-use Rattle.site_model.specs.Worlds.{Site, World, unformatted, formatted, IsFitSite, IsFit}
+use Rattle.site_model.specs.Worlds.{Site, World, unformatted, formatted, IsFit}
 
 goes_back : (past : List LogEntry) (entry : LogEntry) → MayFollow past entry → GoesBack (length past) entry
 goes_back past (begin txn) may = tt

@@ -29,43 +29,50 @@ pub record Collected : Type 0 where
   pub time : ℕ
 
 -- where a run of `-T` stands between two lines: the bytes and lines of the script behind it, the records that stand, those
--- collected since, and the logs after each batch so far
+-- collected since
 pub record ScriptState : Type 0 where
   pub begun : ℕ
   pub lines : ℕ
   pub history : History
   pub collected : Collected
-  pub passed : List History
 
 abbrev pub first_collected : History → Collected
 first_collected history = record { batch = []; table = table_of history; time = last_time history }
 
 abbrev pub first_state : History → ScriptState
-first_state history = record { begun = 0; lines = 0; history = history; collected = first_collected history; passed = [] }
+first_state history = record { begun = 0; lines = 0; history = history; collected = first_collected history }
 
--- how a run ends: the logs after each batch, the last log, and the status
+-- how a run ends: the batches that it appends one after another, the status, and the lines of the script that it doesn't take:
+-- those behind the line at which it ended, and that line itself where it passes a limit
 pub record Ending : Type 0 where
-  pub passed : List History
-  pub last : History
+  pub batches : List History
   pub status : Status
+  pub left : List Raw
+
+-- the logs behind each of some batches, one after another, and the one behind all
+abbrev pub logs_behind : History → List History → List History
+logs_behind log [] = []
+logs_behind log (batch ∷ batches) = (log ++ batch) ∷ logs_behind (log ++ batch) batches
+
+abbrev pub log_behind : History → List History → History
+log_behind log [] = log
+log_behind log (batch ∷ batches) = log_behind (log ++ batch) batches
 
 -- the batch is appended
 abbrev pub appended : ScriptState → ScriptState
-appended place =
-    let history = place.history ++ place.collected.batch in
-    record place { history = history; collected = record place.collected { batch = [] }; passed = place.passed ++ history ∷ [] }
+appended place = record place { history = place.history ++ place.collected.batch; collected = record place.collected { batch = [] } }
 
 abbrev pub is_full : ScriptState → Bool
 is_full place = nat_lt log_capacity (length place.history + length place.collected.batch)
 
-abbrev pub ends_at : Status → ScriptState → Ending
-ends_at status place = record { passed = place.passed; last = place.history; status = status }
+abbrev pub ends_with : List History → Status → List Raw → Ending
+ends_with batches status left = record { batches = batches; status = status; left = left }
 
 -- the run ends here, once its batch is appended; where that is refused, the refusal is the status
-abbrev pub ended : Status → ScriptState → Ending
-ended status place =
-    if length place.collected.batch == 0 then ends_at status place
-    else (if is_full place then ends_at (LogFull (Positions (length place.history))) place else ends_at status (appended place))
+abbrev pub ended : Status → List Raw → ScriptState → Ending
+ended status left place =
+    if length place.collected.batch == 0 then ends_with [] status left
+    else (if is_full place then ends_with [] (LogFull (Positions (length place.history))) left else ends_with (place.collected.batch ∷ []) status left)
 
 -- a Commit or an Abort ends a batch
 abbrev pub ends_batch : Line → Bool
@@ -111,46 +118,53 @@ take_meaning moment end c (Ok (Some line)) =
 abbrev pub take_text : List Space → ℕ → ℕ → Collected → List ℕ → Taken
 take_text spaces moment end c text = take_meaning moment end c (line_of spaces text)
 
--- how a run goes on behind a line, or ends at it
+-- how a run goes on behind a line, once it appended a batch or with none, or ends at it
 pub data Outcome : Type 0 where
   goes_on : (place : ScriptState) → Outcome
+  appends : (batch : History) (place : ScriptState) → Outcome
   ends : (ending : Ending) → Outcome
 
 -- a batch that is whole is appended at once
-abbrev pub after_batch : ScriptState → Outcome
-after_batch place = if is_full place then ends (ended Done place) else goes_on (appended place)
+abbrev pub after_batch : List Raw → ScriptState → Outcome
+after_batch left place = if is_full place then ends (ended Done left place) else appends place.collected.batch (appended place)
 
-abbrev pub after_taken : ScriptState → Taken → Outcome
-after_taken place nothing = goes_on place
-after_taken place (joined collected is_whole) =
-    let next = record place { collected = collected } in if is_whole then after_batch next else goes_on next
-after_taken place (bad why) = ends (ended (ScriptFault place.lines why) place)
+abbrev pub after_taken : List Raw → ScriptState → Taken → Outcome
+after_taken left place nothing = goes_on place
+after_taken left place (joined collected is_whole) =
+    let next = record place { collected = collected } in if is_whole then after_batch left next else goes_on next
+after_taken left place (bad why) = ends (ended (ScriptFault place.lines why) left place)
 
-abbrev pub after_fault : List Space → ℕ → ScriptState → Raw → Option Why → Outcome
-after_fault spaces moment place line (Some why) = ends (ended (ScriptFault place.lines why) place)
-after_fault spaces moment place line None =
-    after_taken (record place { begun = place.begun + length (spelled line) }) (take_text spaces moment (length place.history) place.collected line.text)
+abbrev pub after_fault : List Space → ℕ → ScriptState → Raw → List Raw → Option Why → Outcome
+after_fault spaces moment place line left (Some why) = ends (ended (ScriptFault place.lines why) (line ∷ left) place)
+after_fault spaces moment place line left None =
+    after_taken left (record place { begun = place.begun + length (spelled line) }) (take_text spaces moment (length place.history) place.collected line.text)
 
--- one line of the script, counted from 1
-abbrev pub step_line : List Space → ℕ → ScriptState → Raw → Outcome
-step_line spaces moment place line =
-    let here = record place { lines = place.lines + 1 } in after_fault spaces moment here line (line_fault place.begun line)
+-- one line of the script, counted from 1, and the lines behind it
+abbrev pub step_line : List Space → ℕ → ScriptState → Raw → List Raw → Outcome
+step_line spaces moment place line left =
+    let here = record place { lines = place.lines + 1 } in after_fault spaces moment here line left (line_fault place.begun line)
+
+-- a run that appends a batch first
+abbrev pub behind_batch : History → Ending → Ending
+behind_batch batch ending = record ending { batches = batch ∷ ending.batches }
 
 abbrev pub go_on : (ScriptState → Ending) → Outcome → Ending
 go_on others (goes_on place) = others place
+go_on others (appends batch place) = behind_batch batch (others place)
 go_on others (ends ending) = ending
 
 -- the lines of a script in order; at its end the last batch is appended
 abbrev pub run_lines : List Space → ℕ → List Raw → ScriptState → Ending
-run_lines spaces moment [] place = ended Done place
-run_lines spaces moment (line ∷ lines) place = go_on (λ next. run_lines spaces moment lines next) (step_line spaces moment place line)
+run_lines spaces moment [] place = ended Done [] place
+run_lines spaces moment (line ∷ lines) place = go_on (λ next. run_lines spaces moment lines next) (step_line spaces moment place line lines)
 
--- what a command passes, leaves, answers and prints
+-- what a command passes, leaves, answers and prints, and the lines that it leaves of the script that it reads
 pub record CommandResult : Type 0 where
   pub passed : List World
   pub last : World
   pub status : Status
   pub text : List ℕ
+  pub left : List Raw
 
 abbrev pub is_transactions : CommandForm → Bool
 is_transactions (init_form blocks spaces) = false
@@ -159,15 +173,17 @@ is_transactions (show_form space page) = false
 
 -- a refusal before any work
 abbrev pub refused : World → Status → CommandResult
-refused world status = record { passed = []; last = world; status = status; text = status_text status }
+refused world status = record { passed = []; last = world; status = status; text = status_text status; left = [] }
 
 abbrev pub run_of : Site → Ending → CommandResult
-run_of site ending = record {
-  passed = map (with_history site) ending.passed;
-  last = with_history site ending.last;
-  status = ending.status;
-  text = extension_text site.history ending.last ++ status_text ending.status;
-}
+run_of site ending =
+    let last = log_behind site.history ending.batches in record {
+      passed = map (with_history site) (logs_behind site.history ending.batches);
+      last = with_history site last;
+      status = ending.status;
+      text = extension_text site.history last ++ status_text ending.status;
+      left = ending.left;
+    }
 
 -- the script of `-T` over a formatted site
 abbrev pub transactions : ℕ → Site → List ℕ → CommandResult
@@ -185,6 +201,7 @@ formatting moment blocks spaces =
       last = made;
       status = Done;
       text = flat_map space_text spaces ++ status_text Done;
+      left = [];
     }
 
 -- why a site shows no such space or page, which stands at a place and has a number of pages
@@ -204,7 +221,7 @@ shown_text history name (Some number) (Some place) = page_text name number (page
 
 abbrev pub unless_unshown : Site → List ℕ → Option Status → CommandResult
 unless_unshown site text (Some status) = refused (formatted site) status
-unless_unshown site text None = record { passed = []; last = formatted site; status = Done; text = text ++ status_text Done }
+unless_unshown site text None = record { passed = []; last = formatted site; status = Done; text = text ++ status_text Done; left = [] }
 
 -- `-D` over a formatted site
 abbrev pub showing : Site → List ℕ → Option ℕ → CommandResult

@@ -1,117 +1,108 @@
 -- The promise on stops in plain words, from the form in which it is kept.
-use Rattle.std.specs.Prelude.{◌≡◌, ◌⊎◌, ℕ, ◌+◌, ◌<◌, ◌≤◌, List, Bool, true, false, ◌==◌, if◌then◌else◌, refl}
+use Rattle.std.specs.Prelude.{◌≡◌, ◌⊎◌, ℕ, ◌+◌, ◌<◌, ◌≤◌, List, Bool, true, false, if◌then◌else◌}
 use mathlib.Core.Logic.{inl, inr}
 use Rattle.std.proofs.Common.{arith, ap, subst, sym, ⊎_elim}
-use Rattle.std.proofs.lemmas.Bool.{cases_lt, cases_Bool, eqb-true, eq-eqb, false≢true}
+use Rattle.std.proofs.lemmas.Bool.{cases_lt, cases_Bool}
+use Rattle.walks.specs.Follows.{Images, FollowsAmong}
 use Rattle.site_model.specs.declared.disk_name.DiskName.{DiskName}
-use Rattle.site_model.specs.declared.disk_name.DiskName.TheVariants.{Cat, Spare, Boot, Log, Volume, Chunk}
 use Rattle.site_model.specs.Worlds.{World, IsFit}
-use Rattle.site_model.specs.Layouts.{Shows}
+use Rattle.site_model.specs.Layouts.{Shows, StandFor}
 use Rattle.site_model.specs.Runs.{CommandResult}
-use Rattle.site_model.specs.Steps.{ImagesOf, Passes}
-use Rattle.site_model.specs.Commands.{IsPassed, IsSound, frame_of}
+use Rattle.site_model.specs.Commands.{IsPassed, IsSound, Start, StandOn, Passes, once_synced}
 
-abbrev pub is_disk : DiskName → DiskName → Bool
-is_disk Cat Cat = true
-is_disk Spare Spare = true
-is_disk Boot Boot = true
-is_disk Log Log = true
-is_disk (Volume m) (Volume n) = m == n
-is_disk (Chunk m) (Chunk n) = m == n
-is_disk other name = false
+-- each of these is an image of the era at the start
+abbrev pub WereThere : Start → (DiskName → List ℕ) → Type 0
+WereThere start choice = (name : DiskName) → start.images start.era name (choice name)
 
--- A command that ran, or was stopped: the era at entry, the images at entry and now, what a read gave at entry, the disks
--- that it didn't sync, the world at its begin and what it makes of it.
-pub record Scene : Type 1 where
-  pub entry : ℕ
-  pub old : ImagesOf
-  pub new : ImagesOf
-  pub contents : DiskName → List ℕ
-  pub rests : DiskName → Type 0
-  pub begin : World
-  pub run : CommandResult
+-- they stand for a world that the command passes from a fit world, which the disks that it uses showed at its start
+pub record StandForARun (start : Start) (run_from : World → CommandResult) (choice : DiskName → List ℕ) : Type 0 where
+  pub begun : World
+  pub fit : IsFit begun
+  pub shown : StandOn start.used start.contents begun
+  pub world : World
+  pub passed : IsPassed begun (run_from begun) world
+  pub stand : StandFor choice world
 
--- some fit world at entry has this part on a disk
-abbrev pub ShowedAtEntry : Scene → DiskName → List ℕ → Type 0
-ShowedAtEntry scene name bytes =
-    (choice : DiskName → List ℕ) × ((other : DiskName) → scene.old scene.entry other (choice other)) × (choice name ≡ bytes)
-    × ((world : World) × IsFit world × ((other : DiskName) → Shows other world (choice other)))
+-- Nothing is written in the era at the start and the next one. In every later era each choice of images is one from the start, or
+-- stands for a world of the command's run.
+pub record KeepsPromise (start : Start) (new : Images DiskName) (run_from : World → CommandResult) : Type 0 where
+  pub first : (f : ℕ) (name : DiskName) (bytes : List ℕ) → f ≤ start.era + 1 → new f name bytes → start.images f name bytes
+  pub stops : (f : ℕ) → start.era < f → (choice : DiskName → List ℕ) → ((name : DiskName) → new f name (choice name))
+      → WereThere start choice ⊎ StandForARun start run_from choice
 
--- a disk that the command hasn't synced yet in an era: none is in its first era, and some never
-abbrev pub NotSynced : Scene → ℕ → DiskName → Type 0
-NotSynced scene f name = (f ≤ scene.entry + 1) ⊎ scene.rests name
+module _ (start : Start) (new : Images DiskName) (run_from : World → CommandResult)
+    (reads : WereThere start start.contents)
+    (counts : (f : ℕ) (name : DiskName) (bytes : List ℕ) → start.era < f → start.images f name bytes → start.images start.era name bytes)
+    (rests : (f : ℕ) (name : DiskName) (bytes : List ℕ) → start.used name ≡ false → new f name bytes → start.images f name bytes)
+    (passes : (world : World) → IsFit world → StandOn start.used start.contents world → Passes start new world (IsPassed world (run_from world)))
+    (sound : IsSound start.era start.images) where
+  first_era : (f : ℕ) (name : DiskName) (bytes : List ℕ) → f ≤ start.era + 1 → new f name bytes → start.images f name bytes
+  first_era f name bytes le image =
+      let begun = sound start.contents reads in
+      ⊎_elim (λ none. none f name bytes image) (λ goes. (goes.earlier f name bytes (omega (arith, le)) image).0)
+      (passes begun.0 begun.1 (λ n used. begun.2 n))
 
--- Nothing is written in the era at entry. In every later era each choice of images stands for a stopped world, but that a
--- disk that isn't synced yet may instead show its part of one of the worlds at entry.
-pub record KeepsPromise (scene : Scene) : Type 0 where
-  pub at_entry : (name : DiskName) (bytes : List ℕ) → scene.new scene.entry name bytes → scene.old scene.entry name bytes
-  pub stops : (f : ℕ) → scene.entry < f → (choice : DiskName → List ℕ) → ((name : DiskName) → scene.new f name (choice name))
-      → (world : World) × IsPassed scene.begin scene.run world
-      × ((name : DiskName) → Shows name world (choice name) ⊎ (NotSynced scene f name × ShowedAtEntry scene name (choice name)))
+  -- what the used disks read as, and of the others these images, are a choice of the start
+  module _ (choice : DiskName → List ℕ) (f : ℕ) (lt : start.era < f) (images : (name : DiskName) → new f name (choice name)) where
+    mixed : DiskName → List ℕ
+    mixed name = if start.used name then start.contents name else choice name
 
--- one disk's contents changed
-abbrev with_disk : DiskName → List ℕ → (DiskName → List ℕ) → DiskName → List ℕ
-with_disk name bytes contents other = if is_disk name other then bytes else contents other
+    is_used : (name : DiskName) → start.used name ≡ true → mixed name ≡ start.contents name
+    unfolding mixed
+    is_used name used = ap (λ (b : Bool). if b then start.contents name else choice name) used
 
-same_disk : (a b : DiskName) → is_disk a b ≡ true → a ≡ b
-same_disk Cat Cat is = refl
-same_disk Spare Spare is = refl
-same_disk Boot Boot is = refl
-same_disk Log Log is = refl
-same_disk (Volume m) (Volume n) is = ap Volume (eqb-true m n is)
-same_disk (Chunk m) (Chunk n) is = ap Chunk (eqb-true m n is)
-same_disk a b is = absurd (false≢true is)
+    isnt_used : (name : DiskName) → start.used name ≡ false → mixed name ≡ choice name
+    unfolding mixed
+    isnt_used name isnt = ap (λ (b : Bool). if b then start.contents name else choice name) isnt
 
-is_itself : (name : DiskName) → is_disk name name ≡ true
-is_itself Cat = refl
-is_itself Spare = refl
-is_itself Boot = refl
-is_itself Log = refl
-is_itself (Volume n) = eq-eqb n n refl
-is_itself (Chunk n) = eq-eqb n n refl
-
-pub promise : (scene : Scene) → Passes (frame_of scene.entry scene.old scene.rests (IsPassed scene.begin scene.run)) scene.new
-    → IsSound scene.entry scene.old
-    → ((name : DiskName) → scene.old scene.entry name (scene.contents name))
-    → ((f : ℕ) (name : DiskName) (bytes : List ℕ) → scene.entry < f → scene.old f name bytes → scene.old scene.entry name bytes)
-    → KeepsPromise scene
-promise scene passes sound contents counts = record {
-  at_entry = λ name bytes image. passes.earlier scene.entry name bytes (omega arith) image;
-  stops = stops;
-}
-  where
-    showed : (name : DiskName) (bytes : List ℕ) → scene.old scene.entry name bytes → ShowedAtEntry scene name bytes
-    showed name bytes image =
-        let choice : DiskName → List ℕ = with_disk name bytes scene.contents in
-        let images : (other : DiskName) → scene.old scene.entry other (choice other) = λ other. elim (cases_Bool (is_disk name other)) [
-          | inl is ↦
-              let same = same_disk name other is in
-              let stands : choice other ≡ bytes = ap (λ (b : Bool). if b then bytes else scene.contents other) is in
-              subst (λ (c : List ℕ). scene.old scene.entry other c) (sym stands) (subst (λ (n : DiskName). scene.old scene.entry n bytes) same image)
-          | inr isnt ↦
-              let stands : choice other ≡ scene.contents other = ap (λ (b : Bool). if b then bytes else scene.contents other) isnt in
-              subst (λ (c : List ℕ). scene.old scene.entry other c) (sym stands) (contents other)
-        ] in
-        (choice, images, ap (λ (b : Bool). if b then bytes else scene.contents name) (is_itself name), sound choice images)
-
-    stops : (f : ℕ) → scene.entry < f → (choice : DiskName → List ℕ) → ((name : DiskName) → scene.new f name (choice name))
-        → (world : World) × IsPassed scene.begin scene.run world
-        × ((name : DiskName) → Shows name world (choice name) ⊎ (NotSynced scene f name × ShowedAtEntry scene name (choice name)))
-    stops f lt choice images = elim (cases_lt (scene.entry + 1) f) [
-      | inl behind ↦
-          let stands = passes.later f behind choice images in (
-            stands.0,
-            stands.1,
-            λ name. ⊎_elim (λ shows. inl shows)
-                (λ rests. inr (inr rests.0, showed name (choice name) (counts f name (choice name) lt rests.1))) (stands.2 name),
-          )
-      | inr within ↦ (
-        scene.begin,
-        inl refl,
-        λ name. inr (
-          inl within,
-          showed name (choice name)
-              (counts f name (choice name) lt (passes.earlier f name (choice name) within (images name))),
-        ),
-      )
+    were_there : WereThere start mixed
+    were_there name = elim (cases_Bool (start.used name)) [
+      | inl used ↦ subst (λ (b : List ℕ). start.images start.era name b) (sym (is_used name used)) (reads name)
+      | inr isnt ↦ subst (λ (b : List ℕ). start.images start.era name b) (sym (isnt_used name isnt))
+          (counts f name (choice name) lt (rests f name (choice name) isnt (images name)))
     ]
+
+    begun : (world : World) × IsFit world × StandFor mixed world
+    begun = sound mixed were_there
+
+    used_show : StandOn start.used start.contents begun.0
+    used_show name used = subst (Shows name begun.0) (is_used name used) (begun.2 name)
+
+    -- in an era behind the first one
+    of_run : start.era + 1 < f → FollowsAmong Shows (once_synced start) f begun.0 (IsPassed begun.0 (run_from begun.0)) choice
+        → StandForARun start run_from choice
+    of_run behind among = record {
+      begun = begun.0;
+      fit = begun.1;
+      shown = used_show;
+      world = among.0;
+      passed = among.1;
+      stand = λ name. ⊎_elim (λ is. is) (λ was. was.1 (elim (cases_Bool (start.used name)) [
+        | inl used ↦ subst (Shows name begun.0) (sym (was.0.1 behind used)) (used_show name used)
+        | inr isnt ↦ subst (Shows name begun.0) (isnt_used name isnt) (begun.2 name)
+      ])) (among.2 name);
+    }
+
+    stops_so : WereThere start choice ⊎ StandForARun start run_from choice
+    stops_so = elim (cases_lt (start.era + 1) f) [
+      | inr within ↦ inl (λ name. counts f name (choice name) lt (first_era f name (choice name) within (images name)))
+      | inl behind ↦ ⊎_elim
+          (λ none. inl (λ name. counts f name (choice name) lt (none f name (choice name) (images name))))
+          (λ goes. inr (of_run behind (goes.later f choice (omega (arith, behind)) images)))
+          (passes begun.0 begun.1 used_show)
+    ]
+
+  pub promise : KeepsPromise start new run_from
+  promise = record { first = first_era; stops = λ f lt choice images. stops_so choice f lt images }
+
+  -- each choice stands for a fit world, where runs pass fit worlds alone
+  pub stays_sound : ((begun other : World) → IsFit begun → IsPassed begun (run_from begun) other → IsFit other) → (f : ℕ) → start.era ≤ f → IsSound f new
+  stays_sound fit f le choice images = elim (cases_lt start.era f) [
+    | inl lt ↦ ⊎_elim
+        (λ were. sound choice were)
+        (λ run. (run.world, fit run.begun run.world run.fit run.passed, run.stand))
+        (stops_so choice f lt images)
+    | inr isnt ↦ sound choice (λ name.
+        let same : f ≡ start.era = omega (arith, le, isnt) in
+        subst (λ (g : ℕ). start.images g name (choice name)) same (first_era f name (choice name) (omega (arith, isnt)) (images name)))
+  ]

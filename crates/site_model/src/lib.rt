@@ -11,5 +11,5 @@ mod status;
 
 pub use disk_name::DiskName;
 pub use lacking::{Lacking, LackingList, What};
-pub use laws::runs_stay_open;
+pub use laws::{a_run_only_extends, runs_stay_fit, runs_stay_open};
 pub use status::{LogFull, Status, exit_status};

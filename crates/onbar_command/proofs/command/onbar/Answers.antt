@@ -1,13 +1,13 @@
 use Rattle.std.proofs.Common.{◌≡◌, ◌∙◌, ◌++◌, ⊎_elim, inl, inr, ℕ, List, map, Err, IsTrue, refl, sym, ap, subst}
 use Rattle.std.specs.Prelude.{string_bytes}
-use Rattle.site_model.specs.Commands.{Did, MayChange, frame_of, CutsShort}
+use Rattle.site_model.specs.Commands.{used_by, Did, MayChange, CutsShort}
 use Rattle.site_model.specs.declared.disk_name.DiskName.{DiskName}
 use Rattle.site_model.specs.Openings.{IsOfDisks, IsRefused}
 use Rattle.site_model.specs.declared.status.Status.{Status}
 use Rattle.site_model.specs.declared.status.Status.TheVariants.{ReadFault, WriteFault, DiskFault, Usage}
 use Rattle.onbar_grammar.specs.Words.{command_of}
 use Rattle.site_model.specs.Runs.{reads_script, run}
-use Rattle.onbar_command.specs.Disks.{contents_of, images_of, AreKept, NotSynced}
+use Rattle.onbar_command.specs.Disks.{contents_of, images_of, start_of, AreKept}
 use Rattle.onbar_command.specs.Forms.{Finishes, status_told, text_told}
 use Rattle.site_model.specs.Texts.{status_text}
 use Rattle.onbar_command.specs.Printing.{TakesFront}
@@ -18,23 +18,24 @@ use Rattle.onbar_command.proofs.command.onbar.Goals as goal
 pub returns-in-Ok-print_all-clause-whole : goal.returns-in-Ok-print_all-clause-whole
 returns-in-Ok-print_all-clause-whole g c tells_disk tells_source world fit stand not_cut =
     let done = c.run_words-done.ensures in
-    let frame = frame_of c.args.era.now.number (images_of g.D.Disk.image c.args.site.now.disks) (NotSynced g.D.Disk.ledger c.args.site.now.disks c.run_words-done.new.site.disks) in
+    let start = start_of g.D.Disk.bytes g.D.Disk.image c.args.era.now.number (used_by (command_of (map string_bytes c.args.words.now))) c.args.site.now.disks in
     let what = run (map string_bytes c.args.words.now) c.args.moment world (g.S.Source.left c.args.script.now) in
-    let finishes = subst (λ (e : ℕ). Finishes (reads_script (command_of (map string_bytes c.args.words.now))) what (g.S.Source.left c.run_words-done.new.source) (contents_of g.D.Disk.bytes c.run_words-done.new.site.disks) e frame
+    let finishes = subst (λ (e : ℕ). Finishes (reads_script (command_of (map string_bytes c.args.words.now))) start world what (g.S.Source.left c.run_words-done.new.source) (contents_of g.D.Disk.bytes c.run_words-done.new.site.disks) e
     (images_of g.D.Disk.image c.run_words-done.new.site.disks) c.run_words-done.result) (sym c.next.ensures.number) (done.finishes tells_disk tells_source world fit stand) in
     let text : IsTrue g.K.Sink.is_modelled → g.K.Sink.taken c.print_all.new.out ≡ g.K.Sink.taken c.args.out.now ++ text_told c.run_words-done.result = λ tells_sink. c.in-Ok-print_all.ensures.whole tells_sink ∙ ap (λ (t : List ℕ). g.K.Sink.taken c.args.out.now ++ t) (c.as_bytes.ensures.value ∙ c.in-Ok.ensures) in
-    subst (λ (s : Status). Did what s g.K.Sink.is_modelled (g.K.Sink.taken c.args.out.now) (g.K.Sink.taken c.print_all.new.out) (contents_of g.D.Disk.bytes c.run_words-done.new.site.disks) c.next.new.self.number frame
+    subst (λ (s : Status). Did (reads_script (command_of (map string_bytes c.args.words.now))) start world what s g.K.Sink.is_modelled (g.K.Sink.taken c.args.out.now) (g.K.Sink.taken c.print_all.new.out)
+    (g.S.Source.left c.run_words-done.new.source) (contents_of g.D.Disk.bytes c.run_words-done.new.site.disks) c.next.new.self.number
     (images_of g.D.Disk.image c.run_words-done.new.site.disks)) (sym c.told_status.ensures)
-    (did _ what _ _ _ frame _ c.run_words-done.result _ _ finishes (subst (λ (s : Status). CutsShort s → ⊥) c.told_status.ensures not_cut) _ text)
+    (did _ start world what _ _ _ _ c.run_words-done.result _ _ finishes (subst (λ (s : Status). CutsShort s → ⊥) c.told_status.ensures not_cut) _ text)
 
 pub returns-in-Err-print_all-clause-cut : goal.returns-in-Err-print_all-clause-cut
 returns-in-Err-print_all-clause-cut g c tells_disk tells_source tells_sink world fit stand cut =
     let done = c.run_words-done.ensures in
-    let frame = frame_of c.args.era.now.number (images_of g.D.Disk.image c.args.site.now.disks) (NotSynced g.D.Disk.ledger c.args.site.now.disks c.run_words-done.new.site.disks) in
+    let start = start_of g.D.Disk.bytes g.D.Disk.image c.args.era.now.number (used_by (command_of (map string_bytes c.args.words.now))) c.args.site.now.disks in
     let what = run (map string_bytes c.args.words.now) c.args.moment world (g.S.Source.left c.args.script.now) in
-    let finishes = subst (λ (e : ℕ). Finishes (reads_script (command_of (map string_bytes c.args.words.now))) what (g.S.Source.left c.run_words-done.new.source) (contents_of g.D.Disk.bytes c.run_words-done.new.site.disks) e frame
+    let finishes = subst (λ (e : ℕ). Finishes (reads_script (command_of (map string_bytes c.args.words.now))) start world what (g.S.Source.left c.run_words-done.new.source) (contents_of g.D.Disk.bytes c.run_words-done.new.site.disks) e
     (images_of g.D.Disk.image c.run_words-done.new.site.disks) c.run_words-done.result) (sym c.next.ensures.number) (done.finishes tells_disk tells_source world fit stand) in
-    printed_front _ what _ _ _ frame _ c.run_words-done.result _ _ finishes
+    printed_front _ start world what _ _ _ _ c.run_words-done.result _ _ finishes
     (subst (λ (t : List ℕ). TakesFront (g.K.Sink.taken c.args.out.now) (g.K.Sink.taken c.print_all.new.out) t) (c.as_bytes.ensures.value ∙ c.in-Ok.ensures)
     (c.in-Err-print_all.ensures.front tells_sink))
 

@@ -6,7 +6,7 @@ use Rattle.onbar_words.specs.declared.words.Form.{Form}
 use Rattle.site_model.specs.Openings.{DisksRefuse}
 use Rattle.site_model.specs.Runs.{is_transactions}
 use Rattle.onbar_command.specs.Disks.{contents_of}
-use Rattle.onbar_command.proofs.ExtendLemmas.{so_at_ok}
+use Rattle.script_runs.proofs.ExtendLemmas.{so_at_ok}
 use Rattle.site_model.specs.declared.disk_name.DiskName.TheVariants.{Cat, Log}
 use Rattle.onbar_command.proofs.FrameLemmas.{init_within, init_reads, same_may_change, at_ok}
 use Rattle.onbar_command.proofs.SiteLemmas.{may_moved}
@@ -69,6 +69,13 @@ pub returns-in-Show-clause-finishes : goal.returns-in-Show-clause-finishes
 returns-in-Show-clause-finishes g c tells_disk tells_source world opens stand =
     let left = g.S.Source.left c.args.source.now in
     rw (c.in-Show.is) (c.run_show.ensures.finishes tells_disk world opens stand c.args.moment left left)
+
+pub returns-in-Init-clause-passes : goal.returns-in-Init-clause-passes
+returns-in-Init-clause-passes g c tells_disk known world opens stand =
+    rw (c.in-Init.is) (c.run_init.ensures.passes tells_disk world opens stand (g.S.Source.left c.args.source.now))
+
+pub returns-in-Show-clause-passes : goal.returns-in-Show-clause-passes
+returns-in-Show-clause-passes g c tells_disk known world opens stand = inl c.run_show.ensures.unwritten.images
 
 pub returns-in-Transactions-clause-passes : goal.returns-in-Transactions-clause-passes
 returns-in-Transactions-clause-passes g c tells_disk known world opens stand =

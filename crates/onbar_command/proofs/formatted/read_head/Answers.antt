@@ -1,5 +1,5 @@
 use Rattle.site_headers.specs.HeaderLaws.{length-catalogue_tail}
-use Rattle.onbar_command.proofs.HeaderLemmas.{page_has, file_has, found_where_it_is}
+use Rattle.log_reading.proofs.HeaderLemmas.{page_has, file_has, found_where_it_is}
 use Rattle.onbar_command.proofs.formatted.read_head.Goals as goal
 
 pub returns-then-not-branch-clause-not_formatted : goal.returns-then-not-branch-clause-not_formatted

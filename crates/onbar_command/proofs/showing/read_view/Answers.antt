@@ -1,9 +1,9 @@
 use Rattle.std.proofs.Common.{◌⊎◌, ℕ, ◌+◌, sym, subst, arith, inl, inr, ⊎_elim}
 use Rattle.site_model.specs.Layouts.{HoldsLog}
 use Rattle.site_model.specs.Openings.{LogRefuses}
-use Rattle.onbar_command.specs.Extending.{log_status}
-use Rattle.onbar_command.specs.Openings.{IsDeviceOrMemory, IsOpened}
-use Rattle.onbar_command.proofs.ExtendLemmas.{nothing_new, not_refused, opened_state, cuts_short}
+use Rattle.log_reading.specs.Openings.{log_status}
+use Rattle.log_reading.specs.Openings.{IsDeviceOrMemory, IsOpened}
+use Rattle.log_reading.proofs.OpenedLemmas.{nothing_new, not_refused, opened_state, cuts_short}
 use Rattle.onbar_command.proofs.showing.read_view.Goals as goal
 
 pub returns-in-Ok-clause-opens : goal.returns-in-Ok-clause-opens

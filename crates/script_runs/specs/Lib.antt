@@ -1,0 +1,7 @@
+pub mod Batches
+pub mod Collecting
+pub mod Extending
+pub mod Scripts
+pub mod ScriptSteps
+pub mod Stages
+pub mod Images
