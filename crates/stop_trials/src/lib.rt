@@ -6,4 +6,6 @@ mod disks;
 #[cfg(test)]
 mod formatting;
 #[cfg(test)]
+mod stories;
+#[cfg(test)]
 mod streams;
