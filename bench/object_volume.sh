@@ -20,7 +20,7 @@ esac
 
 bench=$work/crates/volume_bench
 mkdir -p "$bench/src" "$bench/proofs/send_once" "$bench/proofs/send_all"
-for crate in log_history site_disk onbar_grammar bsa_descriptor block_chain gated_slots site_headers object_volume host_disk; do
+for crate in byte_fields log_history site_disk onbar_grammar bsa_descriptor block_chain gated_slots site_headers object_volume host_disk; do
     mkdir -p "$work/crates/$crate"
     for folder in src specs proofs; do
         if [ -d "$top/crates/$crate/$folder" ]; then

@@ -1,10 +1,10 @@
 -- Writes of a range: what stays outside of it.
-use Rattle.std.proofs.Common.{◌≡◌, ℕ, ◌+◌, ◌-◌, ◌<◌, ◌≤◌, min, List, length, refl, arith, ap, sym, ◌∙◌, inl, inr, ⊎_elim, length-append}
+use Rattle.std.proofs.Common.{◌≡◌, ℕ, ◌+◌, ◌-◌, ◌<◌, ◌≤◌, min, max, List, length, refl, arith, ap, sym, ◌∙◌, inl, inr, ⊎_elim, length-append}
 use Rattle.std.specs.Prelude.{replicate}
 use Rattle.std.proofs.lemmas.Bool.{cases_lt}
 use Rattle.std.proofs.lemmas.List.{take_at, take_all, length-replicate}
 use Rattle.site_disk.specs.Bytes.{written, filled, Torn, Apart}
-use Rattle.site_disk.specs.BytesLaws.{extent-same_front, torn_whole}
+use Rattle.site_disk.specs.BytesLaws.{extent-same_front, torn_whole, length-filled, length-written}
 use Rattle.site_disk.specs.Ledger.{Ledger, EraView, Uses}
 use Rattle.block_chain.specs.Blocks.{times, ascending}
 use Rattle.block_chain.specs.BlocksLaws.{times_within}
@@ -44,6 +44,14 @@ written_outside at limit piece old le =
           (take_at old (replicate {A = ℕ} (at - length old) 0) (length old) refl ∙ sym (take_all (length old) old (omega arith)));
       no_shorter = omega (arith, torn.no_shorter, long);
     }
+
+-- how long a file is after a write, and what the write and the zero bytes before it come to
+module _ (place : ℕ) (piece is new : List ℕ) (wrote : new ≡ written place piece (filled place is)) where
+  pub length-wrote : length new ≡ max (length is) (place + length piece)
+  length-wrote = omega (arith, ap length wrote, length-filled place is, length-written place piece (filled place is) (omega (arith, length-filled place is)))
+
+  pub grown_by : (before after : ℕ) → after ≤ before + ((place - length is) + length piece) → after ≤ before + length piece + (length new - length is)
+  grown_by before after spent = omega (arith, spent, length-wrote)
 
 -- a range of neighbouring blocks
 pub outside_spares : (at n limit : ℕ) (run own old new : List ℕ) → places run ≡ ascending at n → ((block : ℕ) → 0 < times block run → 0 < times block own)

@@ -1,5 +1,5 @@
 -- Whole blocks of a piece on their way to the volume.
-use Rattle.std.proofs.Common.{◌≡◌, ℕ, ◌+◌, ◌-◌, ◌*◌, ◌^◌, ◌<◌, ◌≤◌, Bool, IsTrue, List, [], ◌∷◌, ◌++◌, length, take, drop, replicate, arith, ap, sym, ◌∙◌, subst, length-append}
+use Rattle.std.proofs.Common.{◌≡◌, ℕ, ◌+◌, ◌-◌, ◌*◌, ◌^◌, ◌<◌, ◌≤◌, Bool, IsTrue, List, [], ◌∷◌, ◌++◌, length, take, drop, max, replicate, arith, ap, sym, ◌∙◌, subst, length-append}
 use Rattle.std.proofs.lemmas.List.{append-nil, length-take, length-drop, length-replicate}
 use Rattle.std.proofs.Math.Seq.{take-add}
 use Rattle.std.specs.Prelude.{Result, Ok, Err, OnOk}
@@ -16,7 +16,7 @@ use Rattle.block_chain.specs.Table.{Table}
 use Rattle.block_chain.specs.declared.lists.BlockList.{BlockList}
 use Rattle.object_volume.specs.Objects.{place_of, places, bytes_at, Spares, Outside}
 use Rattle.object_volume.specs.ObjectsLaws.{places-append, places-cons, places-nil, length-places, bytes_at-ascending, bytes_at-append, bytes_at-nil, spares_none, spares_again, spares_less, spared_blocks}
-use Rattle.object_volume.proofs.OutsideLemmas.{written_outside, outside_spares, writes_again}
+use Rattle.object_volume.proofs.OutsideLemmas.{written_outside, outside_spares, writes_again, length-wrote}
 use Rattle.object_volume.proofs.TakingLemmas.{taken_free, takes_nothing}
 use Rattle.object_volume.specs.Taking.{Takes, PutsBlocks}
 
@@ -38,7 +38,8 @@ pub record Putting {D : Type 0} (tells : Bool) (bytes : D → List ℕ) (image :
   pub crash : IsTrue tells → Leaves era.number (Spares old.free (length (bytes was))) (image was) (image is)
   pub uses : Uses era 0 (length done * place_of old.blocks) (ledger was) (ledger is)
   pub reaches : IsTrue tells → reached ≤ length (bytes is)
-  pub bound : IsTrue tells → place_of old.blocks ≤ length (bytes was) → (ledger is).written ≤ (ledger was).written + from
+  pub grown : IsTrue tells → (ledger is).written ≤ (ledger was).written + from + (length (bytes is) - length (bytes was))
+  pub ends : IsTrue tells → length (bytes is) ≤ max (length (bytes was)) (place_of old.blocks)
 
 -- so many writes and one more, each of at most so many bytes
 pub times_room : (d r q x y : ℕ) → 1 ≤ r → d + r ≤ q → y ≤ x → d * x + y ≤ q * x
@@ -137,12 +138,26 @@ module _ {D : Type 0} {tells : Bool} {bytes : D → List ℕ} {image : D → ℕ
       writes_again so_far.uses used
       (times_room (length so_far.done) (length so_far.run) q (place_of old.blocks) (start + length slice) so_far.some le (omega (arith, long, so_far.before_end)))
 
-  pub flushed_bound : IsTrue tells → place_of old.blocks ≤ length (bytes was)
-      → (IsTrue tells → start ≤ length (bytes is) → (ledger new).written ≤ (ledger is).written + length slice) → (ledger new).written ≤ (ledger was).written + at
-  flushed_bound told full bounded =
+  pub flushed_bound : IsTrue tells → (ledger new).written ≤ (ledger is).written + ((start - length (bytes is)) + length slice)
+      → (ledger new).written ≤ (ledger was).written + at + (place_of old.blocks - length (bytes was))
+  flushed_bound told spent =
       let long = length-slice piece (bytes is) (bytes new) so_far.done so_far.run slice start from at so_far.first so_far.upto so_far.within so_far.neighbours cut in
       let longer = (so_far.spared told).no_shorter in
-      omega (arith, so_far.bound told full, bounded told (omega (arith, longer, full, so_far.before_end)), long, so_far.first, so_far.upto)
+      omega (arith, so_far.grown told, so_far.ends told, spent, long, longer, so_far.before_end, so_far.first, so_far.upto)
+
+  pub flushed_grown : IsTrue tells → bytes new ≡ written start slice (filled start (bytes is))
+      → (ledger new).written ≤ (ledger is).written + ((start - length (bytes is)) + length slice)
+      → (ledger new).written ≤ (ledger was).written + at + (length (bytes new) - length (bytes was))
+  flushed_grown told wrote spent =
+      let long = length-slice piece (bytes is) (bytes new) so_far.done so_far.run slice start from at so_far.first so_far.upto so_far.within so_far.neighbours cut in
+      let longer = (so_far.spared told).no_shorter in
+      let size = length-wrote start slice (bytes is) (bytes new) wrote in
+      omega (arith, so_far.grown told, spent, size, long, longer, so_far.first, so_far.upto)
+
+  pub flushed_ends : IsTrue tells → bytes new ≡ written start slice (filled start (bytes is)) → length (bytes new) ≤ max (length (bytes was)) (place_of old.blocks)
+  flushed_ends told wrote =
+      let long = length-slice piece (bytes is) (bytes new) so_far.done so_far.run slice start from at so_far.first so_far.upto so_far.within so_far.neighbours cut in
+      omega (arith, so_far.ends told, length-wrote start slice (bytes is) (bytes new) wrote, long, so_far.before_end)
 
   pub flushed_spares : IsTrue tells → (IsTrue tells → bytes new ≡ written start slice (filled start (bytes is))) → Spares (so_far.done ++ so_far.run) (length (bytes was)) (bytes was) (bytes new)
   flushed_spares told wrote =

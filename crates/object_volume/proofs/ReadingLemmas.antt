@@ -13,6 +13,8 @@ use Rattle.site_disk.specs.declared.faults.Failed.{Failed}
 use Rattle.block_chain.specs.Blocks.{ascending, blocks_of_runs}
 use Rattle.block_chain.specs.BlocksLaws.{length-ascending}
 use Rattle.block_chain.specs.declared.runs.Run.{Run}
+use Rattle.object_volume.specs.Cursors.{StandsIn}
+use Rattle.object_volume.specs.declared.reading.Cursor.{Cursor}
 use Rattle.object_volume.specs.Objects.{place_of, places, bytes_at, object_part}
 use Rattle.object_volume.specs.ObjectsLaws.{take-ascending, drop-ascending, places-append, places-nil, places-ascending, bytes_at-ascending, bytes_at-append, bytes_at-cut, bytes_at-nil}
 
@@ -43,15 +45,18 @@ read_front (Ok got) at k n len place xs ys file within same long bound count fou
     ∙ ap (λ (l : List ℕ). take at xs ++ l) (found ∙ extent-got place len got file count ∙ ap (λ (j : ℕ). extent place j file) same)
 read_front (Err e) at k n len place xs ys file within same long bound count found = tt
 
--- so many bytes of an object were read, and the others begin at some byte of the runs that are left
+-- so many bytes of an object were read from a cursor on, and the others begin at the next one
 pub record Reading {D : Type 0} (tells : Bool) (bytes : D → List ℕ) (image : D → ℕ → List ℕ → Type 0) (ledger : D → Ledger) (era : EraView)
-    (runs : List Run) (size at wanted index skip done len : ℕ) (before into : List ℕ) (old new : D) : Type 0 where
+    (runs : List Run) (size wanted : ℕ) (start cursor next : Cursor) (done len : ℕ) (before into : List ℕ) (old new : D) : Type 0 where
   pub within : done ≤ wanted
-  pub least : wanted ≡ min (size - at) len
+  pub least : wanted ≡ min (size - start.offset) len
   pub room : len ≡ length into
   pub rest : drop done into ≡ drop done before
-  pub stands : IsTrue tells → object_part runs size at len (bytes old)
-      ≡ take done into ++ bytes_at (bytes old) (take (wanted - done) (drop skip (places (blocks_of_runs (drop index runs)))))
+  pub stands : IsTrue tells → object_part runs size start.offset len (bytes old)
+      ≡ take done into ++ bytes_at (bytes old) (take (wanted - done) (drop next.skip (places (blocks_of_runs (drop next.run runs)))))
+  pub still : cursor ≡ start
+  pub here : StandsIn runs next
+  pub moved : next.offset ≡ start.offset + done
   pub content : bytes new ≡ bytes old
   pub images : Unchanged (image old) (image new)
   pub uses : Uses era done 0 (ledger old) (ledger new)
@@ -178,6 +183,32 @@ module _ (first len skip : ℕ) (behind : List ℕ) where
       drop-append skip (ascending first len) behind
       ∙ ap (λ (l : List ℕ). l ++ drop (skip - length (ascending first len)) behind) (drop-ascending skip first len)
       ∙ ap (λ (k : ℕ). ascending (first + skip) (len - skip) ++ drop k behind) none
+
+-- where a cursor stands that moves on
+module _ (runs : List Run) (cursor : Cursor) (here : StandsIn runs cursor) where
+  -- by bytes of its run
+  pub moves_within : (n : ℕ) → StandsIn runs (record { run = cursor.run; skip = cursor.skip + n; offset = cursor.offset + n })
+  moves_within n = record {
+    left = sym (drop-drop n cursor.skip (places (blocks_of_runs (drop cursor.run runs)))) ∙ ap (drop n) here.left ∙ drop-drop n cursor.offset (places (blocks_of_runs runs));
+  }
+
+  module _ (first len : ℕ) (next : places (blocks_of_runs (drop cursor.run runs)) ≡ ascending first len ++ places (blocks_of_runs (drop (cursor.run + 1) runs))) where
+    -- past its run
+    pub passes_run : len ≤ cursor.skip → StandsIn runs (record { run = cursor.run + 1; skip = cursor.skip - len; offset = cursor.offset })
+    passes_run le = record {
+      left = sym (ap (drop cursor.skip) next ∙ drop_past_run first len cursor.skip (places (blocks_of_runs (drop (cursor.run + 1) runs))) le) ∙ here.left;
+    }
+
+    -- by the bytes up to its run's end
+    pub ends_run : (n : ℕ) → cursor.skip + n ≡ len → StandsIn runs (record { run = cursor.run + 1; skip = 0; offset = cursor.offset + n })
+    ends_run n all =
+        let none : len - len ≡ 0 = omega arith in
+        let behind : List ℕ = places (blocks_of_runs (drop (cursor.run + 1) runs)) in
+        record {
+          left = sym (ap (drop (cursor.skip + n)) next ∙ ap (λ (k : ℕ). drop k (ascending first len ++ behind)) all
+              ∙ drop_past_run first len len behind (omega arith) ∙ ap (λ (k : ℕ). drop k behind) none)
+              ∙ (moves_within n).left;
+        }
 
 module _ (file : List ℕ) (first m n room : ℕ) (behind : List ℕ) (least : n ≡ min m room) where
   run_taken : take room (ascending first m ++ behind) ≡ ascending first n ++ take (room - n) behind

@@ -15,6 +15,7 @@ mod writing;
 
 pub use faults::{SendFault, Sent, Soundness, VolumeFault};
 pub use laws::{live_blocks_are_apart, spared_objects_read_the_same};
+pub use reading::Cursor;
 pub use volume::Volume;
 
 #[cfg(test)]

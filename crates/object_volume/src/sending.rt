@@ -1,5 +1,5 @@
 //! An object that is being sent.
-ghost use Rattle.std.specs.Prelude.{◌≡◌, ◌+◌, ◌-◌, ◌*◌, ◌/◌, ◌%◌, ◌<◌, ◌≤◌, ◌^◌, ◌⊎◌, ◌↔◌, ℕ, Bool, List, [], ◌∷◌, ◌++◌, length, take, IsTrue, IfOk, OnOk, IsErrOf};
+ghost use Rattle.std.specs.Prelude.{◌≡◌, ◌+◌, ◌-◌, ◌*◌, ◌/◌, ◌%◌, ◌<◌, ◌≤◌, ◌^◌, ◌⊎◌, ◌↔◌, ℕ, Bool, List, [], ◌∷◌, ◌++◌, length, take, max, IsTrue, IfOk, OnOk, IsErrOf};
 ghost use Rattle.site_disk.specs.Causes.{Rose, HasCause};
 ghost use Rattle.site_disk.specs.Images.{Leaves, OnlyAfter};
 ghost use Rattle.site_disk.specs.Ledger.{MayUse, Uses};
@@ -72,10 +72,12 @@ fn fill_part<D: Disk>(
         (Spares (last ∷ []) (length (D.bytes disk.old))) (D.image disk.old) (D.image disk.new) }
     ensures unused { filled ≡ 0 → disk.new ≡ disk.old }
     ensures ledger { Uses era.now 0 (place_of last + 4096) (D.ledger disk.old) (D.ledger disk.new) }
-    ensures bound { IsTrue D.is_modelled → place_of last ≤ length (D.bytes disk.old) → IfOk result (λ n.
-        (D.ledger disk.new).written ≤ (D.ledger disk.old).written + 4096 * ((filled + n) / 4096)) }
-    ensures most { IsTrue D.is_modelled → place_of last ≤ length (D.bytes disk.old)
-        → (D.ledger disk.new).written ≤ (D.ledger disk.old).written + 4096 * ((filled + length bytes.now) / 4096) }
+    ensures grown { IsTrue D.is_modelled → IfOk result (λ n. (D.ledger disk.new).written ≤ (D.ledger disk.old).written
+        + 4096 * ((filled + n) / 4096) + (length (D.bytes disk.new) - length (D.bytes disk.old))) }
+    ensures reaches { IsTrue D.is_modelled
+        → OnOk result (length (D.bytes disk.new) ≤ max (length (D.bytes disk.old)) (place_of last + 4096)) }
+    ensures bound { IsTrue D.is_modelled → (D.ledger disk.new).written ≤ (D.ledger disk.old).written
+        + 4096 * ((filled + length bytes.now) / 4096) + (place_of last - length (D.bytes disk.old)) }
     ensures cause { HasCause (D.ledger disk.old).faults (D.ledger disk.new).faults result }
 {
     if filled == 0 {
@@ -138,8 +140,10 @@ fn put_rest<D: Disk>(
     ensures crash { IsTrue D.is_modelled → Leaves era.now.number
         (Spares chains.old.free (length (D.bytes disk.old))) (D.image disk.old) (D.image disk.new) }
     ensures ledger { Uses era.now 0 (length bytes.now / 4096 * place_of chains.old.blocks) (D.ledger disk.old) (D.ledger disk.new) }
-    ensures bound { IsTrue D.is_modelled → place_of chains.old.blocks ≤ length (D.bytes disk.old)
-        → (D.ledger disk.new).written ≤ (D.ledger disk.old).written + 4096 * (length bytes.now / 4096) }
+    ensures grown { IsTrue D.is_modelled → OnOk result ((D.ledger disk.new).written ≤ (D.ledger disk.old).written
+        + 4096 * (length bytes.now / 4096) + (length (D.bytes disk.new) - length (D.bytes disk.old))) }
+    ensures bound { IsTrue D.is_modelled → (D.ledger disk.new).written ≤ (D.ledger disk.old).written
+        + 4096 * (length bytes.now / 4096) + (place_of chains.old.blocks - length (D.bytes disk.old)) }
     ensures cause { HasCause (D.ledger disk.old).faults (D.ledger disk.new).faults result }
 {
     let whole = bytes.len() - bytes.len() % BLOCK_LEN;
@@ -189,8 +193,12 @@ pub(crate) fn send_piece<D: Disk>(
     ensures crash { IsTrue D.is_modelled → Leaves era.now.number
         (Spares (blocks_of chains.old object.old.list ++ chains.old.free) (length (D.bytes disk.old))) (D.image disk.old) (D.image disk.new) }
     ensures ledger { Uses era.now 0 ((1 + length bytes.now / 4096) * place_of chains.old.blocks) (D.ledger disk.old) (D.ledger disk.new) }
-    ensures bound { IsTrue D.is_modelled → place_of chains.old.blocks ≤ length (D.bytes disk.old) → (D.ledger disk.new).written
-        ≤ (D.ledger disk.old).written + 4096 * ((object.old.size % 4096 + length bytes.now) / 4096) }
+    ensures grown { IsTrue D.is_modelled → OnOk result ((D.ledger disk.new).written ≤ (D.ledger disk.old).written
+        + 4096 * ((object.old.size % 4096 + length bytes.now) / 4096)
+        + (length (D.bytes disk.new) - length (D.bytes disk.old))) }
+    ensures bound { IsTrue D.is_modelled → (D.ledger disk.new).written ≤ (D.ledger disk.old).written
+        + 4096 * ((object.old.size % 4096 + length bytes.now) / 4096)
+        + (place_of chains.old.blocks - length (D.bytes disk.old)) }
 {
     let blocks = (object.size + bytes.len() as u64).div_ceil(4096) - object.size.div_ceil(4096);
     if blocks > u64::from(chains.free()) {
@@ -220,6 +228,8 @@ fn write_part<D: Disk>(disk: &mut D, era: &Era, last: u32, piece: &[u8]) -> Resu
     ensures crash { IsTrue D.is_modelled → Leaves era.now.number
         (Spares (part_block piece.now last) (length (D.bytes disk.old))) (D.image disk.old) (D.image disk.new) }
     ensures ledger { Uses era.now 0 (part_end piece.now last) (D.ledger disk.old) (D.ledger disk.new) }
+    ensures bound { IsTrue D.is_modelled → (D.ledger disk.new).written ≤ (D.ledger disk.old).written
+        + length piece.now + (part_end piece.now last - length (D.bytes disk.old)) }
     ensures cause { HasCause (D.ledger disk.old).faults (D.ledger disk.new).faults result }
 {
     if piece.is_empty() {
@@ -242,6 +252,8 @@ pub(crate) fn finish<D: Disk>(
     ensures crash { IsTrue D.is_modelled → Leaves era.now.number
         (Spares (part_block piece.now last) (length (D.bytes disk.old))) (D.image disk.old) (D.image disk.new) }
     ensures ledger { Uses era.now 0 (part_end piece.now last) (D.ledger disk.old) (D.ledger disk.new) }
+    ensures bound { IsTrue D.is_modelled → (D.ledger disk.new).written ≤ (D.ledger disk.old).written
+        + length piece.now + (part_end piece.now last - length (D.bytes disk.old)) }
     ensures cause { HasCause (D.ledger disk.old).faults (D.ledger disk.new).faults result }
 {
     write_part(disk, era, last, piece)?;

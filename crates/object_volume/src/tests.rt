@@ -4,7 +4,7 @@ ghost use Rattle.site_disk.specs.MemDisk.{disk_bytes, disk_ledger};
 ghost use Rattle.site_headers.specs.Headers.{IsVolumeSize};
 ghost use Rattle.object_volume.specs.Volumes.{disk_of, IsOpen, IsIdle, IsSending, IsLive};
 
-use crate::{SendFault, Sent, Soundness, Volume, VolumeFault};
+use crate::{Cursor, SendFault, Sent, Soundness, Volume, VolumeFault};
 use block_chain::Run;
 use sha2::{Digest, Sha256};
 use site_disk::{Choice, Era, Failed, MemDisk};
@@ -232,6 +232,31 @@ fn a_released_block_is_taken_again(rt: HostRuntime) -> Result<(), Fail> {
         sent.runs.as_slice(),
         [Run { first: 1, count: 1 }, Run { first: 0, count: 1 }].as_slice()
     );
+    Ok(())
+}
+
+#[test]
+fn reads_go_on_from_a_cursor_over_two_runs(rt: HostRuntime) -> Result<(), Fail> {
+    let era = Era::first();
+    let mut bytes = [0; 8192];
+    for (i, byte) in bytes.iter_mut().enumerate() {
+        *byte = (i % 251) as u8;
+    }
+    let mut volume = formatted(rt.alloc(), &era, 2)?;
+    let first = put(&mut volume, &era, b"a", b"bc")?;
+    volume.release(&first.runs);
+    let (front, rest) = bytes.split_at(5000);
+    let Sent { runs, size, .. } = put(&mut volume, &era, front, rest)?;
+    let mut cursor = Cursor::at(0);
+    let mut into = [0; 3000];
+    let got = volume.get_next(&era, &runs, size, &mut cursor, &mut into)?;
+    assert_eq!(rt; into.get(..got), bytes.get(..3000));
+    let got = volume.get_next(&era, &runs, size, &mut cursor, &mut into)?;
+    assert_eq!(rt; into.get(..got), bytes.get(3000..6000));
+    let got = volume.get_next(&era, &runs, size, &mut cursor, &mut into)?;
+    assert_eq!(rt; into.get(..got), bytes.get(6000..));
+    let got = volume.get_next(&era, &runs, size, &mut cursor, &mut into)?;
+    assert_eq!(rt; got, 0);
     Ok(())
 }
 

@@ -9,11 +9,12 @@ ghost use Rattle.block_chain.specs.Blocks.{times, ascending, blocks_of_runs, blo
 ghost use Rattle.sha2.specs.Sha256.{sha256};
 ghost use Rattle.object_volume.specs.Objects.{place_of, object, object_part, Spares};
 ghost use Rattle.object_volume.specs.Answers.{Judges, IsDamaged, Describes, IsEndFault};
+ghost use Rattle.object_volume.specs.Cursors.{offset_of, StandsIn};
 ghost use Rattle.object_volume.specs.Headers.{HasVolume, HasNoVolume, MayFormat, Overlaps};
 
 use crate::checking::check_object;
 use crate::faults::{SendFault, Sent, Soundness, VolumeFault};
-use crate::reading::{BLOCK_LEN, read_object};
+use crate::reading::{BLOCK_LEN, Cursor, read_object};
 use crate::sending::{Sending, finish, send_piece};
 use block_chain::{ChainFault, Chains, Run};
 use gated_slots::{header_close, header_open, header_read};
@@ -254,10 +255,16 @@ impl<D: Disk> Volume<D> {
 
         ensures ledger { Uses era.now 0 ((1 + length bytes.now / 4096) * place_of (blocks_in self.old))
             (D.ledger (disk_of self.old)) (D.ledger (disk_of self.new)) }
-        // Where the volume has its whole length, the blocks that fill are written and nothing else.
-        ensures bound { IsTrue D.is_modelled → place_of (blocks_in self.old) ≤ length (D.bytes (disk_of self.old))
-            → (message : List ℕ) → Sends D.is_modelled D.bytes self.old message → (D.ledger (disk_of self.new)).written
-            ≤ (D.ledger (disk_of self.old)).written + 4096 * ((length message % 4096 + length bytes.now) / 4096) }
+        // The blocks that fill are written, and at most as many zero bytes as the volume grows by.
+        ensures grown { IsTrue D.is_modelled → (message : List ℕ) → Sends D.is_modelled D.bytes self.old message
+            → OnOk result ((D.ledger (disk_of self.new)).written ≤ (D.ledger (disk_of self.old)).written
+            + 4096 * ((length message % 4096 + length bytes.now) / 4096)
+            + (length (D.bytes (disk_of self.new)) - length (D.bytes (disk_of self.old)))) }
+        // However it ends these are at most as many as the volume lacks of its whole length.
+        ensures bound { IsTrue D.is_modelled → (message : List ℕ) → Sends D.is_modelled D.bytes self.old message
+            → (D.ledger (disk_of self.new)).written ≤ (D.ledger (disk_of self.old)).written
+            + 4096 * ((length message % 4096 + length bytes.now) / 4096)
+            + (place_of (blocks_in self.old) - length (D.bytes (disk_of self.old))) }
     {
         let Some(chains) = &mut self.chains else {
             unreachable!()
@@ -295,6 +302,8 @@ impl<D: Disk> Volume<D> {
         ensures failed { IsErrOf result VolumeFault.Failed
             → Rose (D.ledger (disk_of self.old)).faults (D.ledger (disk_of self.new)).faults }
         ensures only { IfErr result IsEndFault }
+        // Want of memory is met before the disk is touched.
+        ensures starved { IsErrOf result VolumeFault.OutOfMemory → disk_of self.new ≡ disk_of self.old }
 
         ensures spared { IsTrue D.is_modelled → OnOk result (Spares (open_blocks self.old) (length (D.bytes (disk_of self.old)))
             (D.bytes (disk_of self.old)) (D.bytes (disk_of self.new))) }
@@ -302,6 +311,9 @@ impl<D: Disk> Volume<D> {
             (Spares (open_blocks self.old) (length (D.bytes (disk_of self.old))))
             (D.image (disk_of self.old)) (D.image (disk_of self.new)) }
         ensures ledger { Uses era.now 0 (place_of (blocks_in self.old)) (D.ledger (disk_of self.old)) (D.ledger (disk_of self.new)) }
+        ensures bound { IsTrue D.is_modelled → (message : List ℕ) → Sends D.is_modelled D.bytes self.old message
+            → (D.ledger (disk_of self.new)).written ≤ (D.ledger (disk_of self.old)).written + length message % 4096
+            + (place_of (blocks_in self.old) - length (D.bytes (disk_of self.old))) }
     {
         let Some(chains) = &self.chains else {
             unreachable!()
@@ -396,7 +408,44 @@ impl<D: Disk> Volume<D> {
         ensures ledger { Uses era.now (length into.old) 0 (D.ledger (disk_of self.old)) (D.ledger (disk_of self.new)) }
         ensures cause { HasCause (D.ledger (disk_of self.old)).faults (D.ledger (disk_of self.new)).faults result }
     {
-        read_object(&mut self.disk, era, runs, size, at, into)
+        let mut cursor = Cursor::at(at);
+        read_object(&mut self.disk, era, runs, size, &mut cursor, into)
+    }
+
+    /// Copies the next bytes of the object in these runs, from the cursor on, as `get` does, and moves the cursor behind
+    /// them. Runs before the cursor aren't looked at, so an object that is read from its begin on costs what it has.
+    pub fn get_next(
+        &mut self,
+        era: &Era,
+        runs: &[Run],
+        size: u64,
+        cursor: &mut Cursor,
+        into: &mut [u8],
+    ) -> Result<usize, Failed>
+        requires era { MayUse era.now (D.ledger (disk_of self.old)) }
+        requires stands { StandsIn runs.now cursor.old }
+
+        ensures bound { IfOk result (λ n. n ≤ min (length into.old) (size - offset_of cursor.old)) }
+        ensures count { IsTrue D.is_modelled → IfOk result (λ n.
+            n ≡ length (object_part runs.now size (offset_of cursor.old) (length into.old) (D.bytes (disk_of self.old)))) }
+        ensures found { IsTrue D.is_modelled → IfOk result (λ n.
+            take n into.new ≡ object_part runs.now size (offset_of cursor.old) (length into.old) (D.bytes (disk_of self.old))) }
+        ensures rest { IfOk result (λ n. drop n into.new ≡ drop n into.old) }
+
+        // It can be read on from the cursor in these runs, after a failure too.
+        ensures moved { IfOk result (λ n. offset_of cursor.new ≡ offset_of cursor.old + n) }
+        ensures stands { StandsIn runs.now cursor.new }
+        ensures stays { OnErr result (cursor.new ≡ cursor.old) }
+
+        ensures volume { self.new ≡ with_disk self.old (disk_of self.new) }
+        ensures bytes { OnOk result (D.bytes (disk_of self.new) ≡ D.bytes (disk_of self.old)) }
+        ensures images { OnOk result (Unchanged (D.image (disk_of self.old)) (D.image (disk_of self.new))) }
+        ensures crash { Leaves era.now.number Same (D.image (disk_of self.old)) (D.image (disk_of self.new)) }
+
+        ensures ledger { Uses era.now (length into.old) 0 (D.ledger (disk_of self.old)) (D.ledger (disk_of self.new)) }
+        ensures cause { HasCause (D.ledger (disk_of self.old)).faults (D.ledger (disk_of self.new)).faults result }
+    {
+        read_object(&mut self.disk, era, runs, size, cursor, into)
     }
 
     /// Compares the SHA-256 of the object in these runs with the one that is kept. `Short` exactly where the volume, or

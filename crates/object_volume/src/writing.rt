@@ -20,8 +20,8 @@ fn reach_from<D: Disk>(disk: &mut D, era: &Era, reached: u64, place: u64) -> Res
     ensures reaches { IsTrue D.is_modelled → OnOk result (place ≤ length (D.bytes disk.new)) }
     ensures crash { IsTrue D.is_modelled → let first = min place (length (D.bytes disk.old)) in
         Leaves era.now.number (Torn first (place - first)) (D.image disk.old) (D.image disk.new) }
-    ensures nothing { IsTrue D.is_modelled → place ≤ length (D.bytes disk.old)
-        → Uses era.now 0 0 (D.ledger disk.old) (D.ledger disk.new) }
+    ensures spent { IsTrue D.is_modelled
+        → Uses era.now 0 (place - length (D.bytes disk.old)) (D.ledger disk.old) (D.ledger disk.new) }
     ensures ledger { Uses era.now 0 place (D.ledger disk.old) (D.ledger disk.new) }
     ensures cause { HasCause (D.ledger disk.old).faults (D.ledger disk.new).faults result }
 {
@@ -48,8 +48,8 @@ pub(crate) fn write_run<D: Disk>(
     ensures crash { IsTrue D.is_modelled → Leaves era.now.number
         (Outside place (length piece.now) (length (D.bytes disk.old))) (D.image disk.old) (D.image disk.new) }
     ensures ledger { Uses era.now 0 (place + length piece.now) (D.ledger disk.old) (D.ledger disk.new) }
-    ensures bound { IsTrue D.is_modelled → place ≤ length (D.bytes disk.old)
-        → (D.ledger disk.new).written ≤ (D.ledger disk.old).written + length piece.now }
+    ensures spent { IsTrue D.is_modelled → (D.ledger disk.new).written
+        ≤ (D.ledger disk.old).written + ((place - length (D.bytes disk.old)) + length piece.now) }
     ensures cause { HasCause (D.ledger disk.old).faults (D.ledger disk.new).faults result }
 {
     reach_from(disk, era, *reached, place)?;
@@ -89,8 +89,10 @@ pub(crate) fn write_blocks<D: Disk>(
     ensures crash { IsTrue D.is_modelled → Leaves era.now.number
         (Spares chains.old.free (length (D.bytes disk.old))) (D.image disk.old) (D.image disk.new) }
     ensures ledger { Uses era.now 0 (length piece.now / 4096 * place_of chains.old.blocks) (D.ledger disk.old) (D.ledger disk.new) }
-    ensures bound { IsTrue D.is_modelled → place_of chains.old.blocks ≤ length (D.bytes disk.old)
-        → (D.ledger disk.new).written ≤ (D.ledger disk.old).written + length piece.now }
+    ensures grown { IsTrue D.is_modelled → OnOk result ((D.ledger disk.new).written ≤ (D.ledger disk.old).written
+        + length piece.now + (length (D.bytes disk.new) - length (D.bytes disk.old))) }
+    ensures bound { IsTrue D.is_modelled → (D.ledger disk.new).written ≤ (D.ledger disk.old).written
+        + length piece.now + (place_of chains.old.blocks - length (D.bytes disk.old)) }
     ensures cause { HasCause (D.ledger disk.old).faults (D.ledger disk.new).faults result }
 {
     if piece.is_empty() {

@@ -3,6 +3,7 @@ use Rattle.std.proofs.lemmas.List.{take_all, length-take}
 use Rattle.site_disk.specs.Bytes.{written, filled}
 use Rattle.site_disk.specs.ImagesLaws.{weaker}
 use Rattle.object_volume.specs.Objects.{Outside, Spares}
+use Rattle.object_volume.proofs.OutsideLemmas.{length-wrote, grown_by}
 use Rattle.object_volume.proofs.SendingLemmas.{length-rest, part_grows, part_fills, filled_front, length-put, block_outside, block_written}
 use borrow.Rule.Slice.PartMut.{put_mid}
 use Rattle.object_volume.proofs.sending.fill_part.Goals as goal
@@ -83,3 +84,39 @@ returns-in_err-write_run-clause-crash g c tells =
     weaker (Spares (c.args.last ∷ []) limit) (Outside c.place_of.result long limit) c.args.era.now.number (g.D.Disk.image c.args.disk.now) (g.D.Disk.image c.args.disk.now)
     (g.D.Disk.image c.write_run.new.disk) (c.write_run.ensures.crash tells)
     (λ f d b lt image outside. block_outside c.args.last c.place_of.result long limit d b c.place_of.ensures all outside)
+
+-- the write of a part that is full, and the zero bytes before it
+pub returns-in_ok-write_run-clause-grown : goal.returns-in_ok-write_run-clause-grown
+returns-in_ok-write_run-clause-grown g c tells =
+    let n = c.min-n.result in
+    let put = c.copy_from_slice.new.self in
+    let part : List ℕ = put_mid c.args.filled (c.args.filled + n - c.args.filled) c.args.part.now put in
+    let all = full_length c.args.filled n c.args.part.now c.args.bytes.now put c.requires.part c.if-filled-n-eq-BLOCK_LEN.true c.copy_from_slice.ensures.after (omega arith) in
+    let grown = grown_by c.place_of.result part (g.D.Disk.bytes c.args.disk.now) (g.D.Disk.bytes c.write_run.new.disk) (c.in_ok-write_run.ensures.bytes tells)
+    (g.D.Disk.ledger c.args.disk.now).written (g.D.Disk.ledger c.write_run.new.disk).written (c.write_run.ensures.spent tells) in
+    omega (arith, grown, all, c.if-filled-n-eq-BLOCK_LEN.true)
+
+pub returns-in_ok-write_run-clause-reaches : goal.returns-in_ok-write_run-clause-reaches
+returns-in_ok-write_run-clause-reaches g c tells =
+    let n = c.min-n.result in
+    let put = c.copy_from_slice.new.self in
+    let part : List ℕ = put_mid c.args.filled (c.args.filled + n - c.args.filled) c.args.part.now put in
+    let all = full_length c.args.filled n c.args.part.now c.args.bytes.now put c.requires.part c.if-filled-n-eq-BLOCK_LEN.true c.copy_from_slice.ensures.after (omega arith) in
+    let size = length-wrote c.place_of.result part (g.D.Disk.bytes c.args.disk.now) (g.D.Disk.bytes c.write_run.new.disk) (c.in_ok-write_run.ensures.bytes tells) in
+    omega (arith, size, all, c.place_of.ensures)
+
+pub returns-in_ok-write_run-clause-bound : goal.returns-in_ok-write_run-clause-bound
+returns-in_ok-write_run-clause-bound g c tells =
+    let n = c.min-n.result in
+    let put = c.copy_from_slice.new.self in
+    let all = full_length c.args.filled n c.args.part.now c.args.bytes.now put c.requires.part c.if-filled-n-eq-BLOCK_LEN.true c.copy_from_slice.ensures.after (omega arith) in
+    let few : n ≤ length c.args.bytes.now = omega arith in
+    omega (arith, c.write_run.ensures.spent tells, all, few, c.if-filled-n-eq-BLOCK_LEN.true, c.place_of.ensures)
+
+pub returns-in_err-write_run-clause-bound : goal.returns-in_err-write_run-clause-bound
+returns-in_err-write_run-clause-bound g c tells =
+    let n = c.min-n.result in
+    let put = c.copy_from_slice.new.self in
+    let all = full_length c.args.filled n c.args.part.now c.args.bytes.now put c.requires.part c.if-filled-n-eq-BLOCK_LEN.true c.copy_from_slice.ensures.after (omega arith) in
+    let few : n ≤ length c.args.bytes.now = omega arith in
+    omega (arith, c.write_run.ensures.spent tells, all, few, c.if-filled-n-eq-BLOCK_LEN.true, c.place_of.ensures)

@@ -1,4 +1,4 @@
-use Rattle.std.proofs.Common.{◌≡◌, ℕ, Bool, ◌+◌, ◌-◌, ◌*◌, ◌<◌, ◌≤◌, ◌⊎◌, ◌++◌, List, [], length, take, drop, refl, arith, ap, sym, ◌∙◌, subst, inl, inr, ⊎_elim, length-append, length-take, length-drop}
+use Rattle.std.proofs.Common.{◌≡◌, ℕ, Bool, ◌+◌, ◌-◌, ◌*◌, ◌<◌, ◌≤◌, ◌⊎◌, ◌++◌, List, [], length, take, drop, max, refl, arith, ap, sym, ◌∙◌, subst, inl, inr, ⊎_elim, length-append, length-take, length-drop}
 use Rattle.std.specs.Prelude.{◌%◌, ◌/◌}
 use Rattle.std.proofs.lemmas.Bool.{cases_lt}
 use Rattle.site_disk.specs.Ledger.{Ledger}
@@ -136,42 +136,73 @@ returns-clause-sent g c message is =
     aligned size n message bytes is few full = omega (arith, length-append message (take n bytes), length-take n bytes, is, few, full)
 
 -- a part that isn't there isn't written, and the block of one that is there is one of the volume's
-part_bound : {D : Type 0} (ledger : D → Ledger) (filled last blocks limit most : ℕ) (old new : D) → (0 < filled → last < blocks) → (filled ≡ 0 → new ≡ old) → place_of blocks ≤ limit
-    → (place_of last ≤ limit → (ledger new).written ≤ (ledger old).written + most) → (ledger new).written ≤ (ledger old).written + most
-part_bound ledger filled last blocks limit most old new below unused full bound = ⊎_elim
-    (λ (some : 0 < filled). bound (omega (arith, below some, full)))
-    (λ (none : filled ≤ 0). let is : filled ≡ 0 = omega arith in omega (arith, ap (λ d. (ledger d).written) (unused is)))
-    (cases_lt 0 filled)
+module _ {D : Type 0} (ledger : D → Ledger) (bytes : D → List ℕ) (filled last blocks most : ℕ) (old new : D) (below : 0 < filled → last < blocks) (unused : filled ≡ 0 → new ≡ old) where
+  part_bound : (ledger new).written ≤ (ledger old).written + most + (place_of last - length (bytes old))
+      → (ledger new).written ≤ (ledger old).written + most + (place_of blocks - length (bytes old))
+  part_bound bound = ⊎_elim
+      (λ (some : 0 < filled). omega (arith, below some, bound))
+      (λ (none : filled ≤ 0). let is : filled ≡ 0 = omega arith in omega (arith, ap (λ d. (ledger d).written) (unused is)))
+      (cases_lt 0 filled)
+
+  part_reaches : length (bytes new) ≤ max (length (bytes old)) (place_of last + 4096) → length (bytes new) ≤ max (length (bytes old)) (place_of blocks)
+  part_reaches reaches = ⊎_elim
+      (λ (some : 0 < filled). omega (arith, below some, reaches))
+      (λ (none : filled ≤ 0). let is : filled ≡ 0 = omega arith in omega (arith, ap (λ d. length (bytes d)) (unused is)))
+      (cases_lt 0 filled)
 
 -- the part's block and those of the rest are whole blocks of both
-blocks_bound : (first mid last filled n len : ℕ) (bytes : List ℕ) → len ≡ length bytes → n ≤ len → mid ≤ first + 4096 * ((filled + n) / 4096)
-    → last ≤ mid + 4096 * (length (take (len - n) (drop n bytes)) / 4096) → last ≤ first + 4096 * ((filled + len) / 4096)
-blocks_bound first mid last filled n len bytes is few part rest = omega (arith, part, rest, few, length-take (len - n) (drop n bytes), length-drop n bytes, is)
+blocks_both : (filled n len : ℕ) (bytes : List ℕ) → len ≡ length bytes → n ≤ len
+    → 4096 * ((filled + n) / 4096) + 4096 * (length (take (len - n) (drop n bytes)) / 4096) ≤ 4096 * ((filled + len) / 4096)
+blocks_both filled n len bytes is few = omega (arith, few, length-take (len - n) (drop n bytes), length-drop n bytes, is)
+
+-- what both of two calls write, and what the volume grows by
+both_bound : (before mid after one two all short middle end : ℕ) → mid ≤ before + one + (middle - short) → short ≤ middle → middle ≤ max short end → one + two ≤ all
+    → after ≤ mid + two + (end - middle) → after ≤ before + all + (end - short)
+both_bound before mid after one two all short middle end first longer within sum second = omega (arith, first, longer, within, sum, second)
+
+both_grown : (before mid after one two all short middle long : ℕ) → mid ≤ before + one + (middle - short) → short ≤ middle → middle ≤ long → one + two ≤ all
+    → after ≤ mid + two + (long - middle) → after ≤ before + all + (long - short)
+both_grown before mid after one two all short middle long first longer still sum second = omega (arith, first, longer, still, sum, second)
 
 pub returns-in_err-n-clause-bound : goal.returns-in_err-n-clause-bound
-returns-in_err-n-clause-bound g c tells full =
+returns-in_err-n-clause-bound g c tells =
     let filled : ℕ = c.args.object.now.size % 4096 in
-    part_bound g.D.Disk.ledger filled c.args.object.now.last c.args.chains.now.blocks (length (g.D.Disk.bytes c.args.disk.now)) (4096 * ((filled + length c.args.bytes.now) / 4096))
-    c.args.disk.now c.fill_part.new.disk (below c.requires.begun.1) c.fill_part.ensures.unused full (c.fill_part.ensures.most tells)
+    part_bound g.D.Disk.ledger g.D.Disk.bytes filled c.args.object.now.last c.args.chains.now.blocks (4096 * ((filled + length c.args.bytes.now) / 4096))
+    c.args.disk.now c.fill_part.new.disk (below c.requires.begun.1) c.fill_part.ensures.unused (c.fill_part.ensures.bound tells)
 
 pub returns-in_err-put_rest-clause-bound : goal.returns-in_err-put_rest-clause-bound
-returns-in_err-put_rest-clause-bound g c tells full =
+returns-in_err-put_rest-clause-bound g c tells =
     let filled : ℕ = c.args.object.now.size % 4096 in
     let bytes = c.args.bytes.now in
     let n = c.in_ok-n.n in
-    blocks_bound (g.D.Disk.ledger c.args.disk.now).written (g.D.Disk.ledger c.fill_part.new.disk).written (g.D.Disk.ledger c.put_rest.new.disk).written filled n (length bytes) bytes refl
-    c.in_ok-n.ensures.taken
-    (part_bound g.D.Disk.ledger filled c.args.object.now.last c.args.chains.now.blocks (length (g.D.Disk.bytes c.args.disk.now)) (4096 * ((filled + n) / 4096))
-    c.args.disk.now c.fill_part.new.disk (below c.requires.begun.1) c.fill_part.ensures.unused full (c.in_ok-n.ensures.bound tells))
-    (c.put_rest.ensures.bound tells (omega (arith, full, (c.in_ok-n.ensures.spared tells).no_shorter)))
+    both_bound (g.D.Disk.ledger c.args.disk.now).written (g.D.Disk.ledger c.fill_part.new.disk).written (g.D.Disk.ledger c.put_rest.new.disk).written
+    (4096 * ((filled + n) / 4096)) (4096 * (length (take (length bytes - n) (drop n bytes)) / 4096)) (4096 * ((filled + length bytes) / 4096))
+    (length (g.D.Disk.bytes c.args.disk.now)) (length (g.D.Disk.bytes c.fill_part.new.disk)) (place_of c.args.chains.now.blocks)
+    (c.in_ok-n.ensures.grown tells) (c.in_ok-n.ensures.spared tells).no_shorter
+    (part_reaches g.D.Disk.ledger g.D.Disk.bytes filled c.args.object.now.last c.args.chains.now.blocks 0
+    c.args.disk.now c.fill_part.new.disk (below c.requires.begun.1) c.fill_part.ensures.unused (c.in_ok-n.ensures.reaches tells))
+    (blocks_both filled n (length bytes) bytes refl c.in_ok-n.ensures.taken) (c.put_rest.ensures.bound tells)
 
 pub returns-clause-bound : goal.returns-clause-bound
-returns-clause-bound g c tells full =
+returns-clause-bound g c tells =
     let filled : ℕ = c.args.object.now.size % 4096 in
     let bytes = c.args.bytes.now in
     let n = c.in_ok-n.n in
-    blocks_bound (g.D.Disk.ledger c.args.disk.now).written (g.D.Disk.ledger c.fill_part.new.disk).written (g.D.Disk.ledger c.put_rest.new.disk).written filled n (length bytes) bytes refl
-    c.in_ok-n.ensures.taken
-    (part_bound g.D.Disk.ledger filled c.args.object.now.last c.args.chains.now.blocks (length (g.D.Disk.bytes c.args.disk.now)) (4096 * ((filled + n) / 4096))
-    c.args.disk.now c.fill_part.new.disk (below c.requires.begun.1) c.fill_part.ensures.unused full (c.in_ok-n.ensures.bound tells))
-    (c.put_rest.ensures.bound tells (omega (arith, full, (c.in_ok-n.ensures.spared tells).no_shorter)))
+    both_bound (g.D.Disk.ledger c.args.disk.now).written (g.D.Disk.ledger c.fill_part.new.disk).written (g.D.Disk.ledger c.put_rest.new.disk).written
+    (4096 * ((filled + n) / 4096)) (4096 * (length (take (length bytes - n) (drop n bytes)) / 4096)) (4096 * ((filled + length bytes) / 4096))
+    (length (g.D.Disk.bytes c.args.disk.now)) (length (g.D.Disk.bytes c.fill_part.new.disk)) (place_of c.args.chains.now.blocks)
+    (c.in_ok-n.ensures.grown tells) (c.in_ok-n.ensures.spared tells).no_shorter
+    (part_reaches g.D.Disk.ledger g.D.Disk.bytes filled c.args.object.now.last c.args.chains.now.blocks 0
+    c.args.disk.now c.fill_part.new.disk (below c.requires.begun.1) c.fill_part.ensures.unused (c.in_ok-n.ensures.reaches tells))
+    (blocks_both filled n (length bytes) bytes refl c.in_ok-n.ensures.taken) (c.put_rest.ensures.bound tells)
+
+pub returns-clause-grown : goal.returns-clause-grown
+returns-clause-grown g c tells =
+    let filled : ℕ = c.args.object.now.size % 4096 in
+    let bytes = c.args.bytes.now in
+    let n = c.in_ok-n.n in
+    both_grown (g.D.Disk.ledger c.args.disk.now).written (g.D.Disk.ledger c.fill_part.new.disk).written (g.D.Disk.ledger c.put_rest.new.disk).written
+    (4096 * ((filled + n) / 4096)) (4096 * (length (take (length bytes - n) (drop n bytes)) / 4096)) (4096 * ((filled + length bytes) / 4096))
+    (length (g.D.Disk.bytes c.args.disk.now)) (length (g.D.Disk.bytes c.fill_part.new.disk)) (length (g.D.Disk.bytes c.put_rest.new.disk))
+    (c.in_ok-n.ensures.grown tells) (c.in_ok-n.ensures.spared tells).no_shorter (c.in_ok-put_rest.ensures.spared tells).no_shorter
+    (blocks_both filled n (length bytes) bytes refl c.in_ok-n.ensures.taken) (c.in_ok-put_rest.ensures.grown tells)

@@ -1,4 +1,4 @@
-use Rattle.std.proofs.Common.{ℕ, length, ◌+◌, ap, ◌∙◌, subst}
+use Rattle.std.proofs.Common.{ℕ, length, ◌+◌, ap, ◌∙◌, subst, arith}
 use Rattle.site_disk.specs.Ledger.{Uses}
 use Rattle.site_disk.specs.CallsLaws.{on_ok}
 use Rattle.site_disk.specs.ImagesLaws.{weaker}
@@ -30,3 +30,9 @@ returns-clause-ledger g c =
     subst (λ (k : ℕ). Uses c.args.era.now 0 k (g.D.Disk.ledger c.args.disk.now) (g.D.Disk.ledger c.write_run.new.disk))
     (ap (λ (k : ℕ). k + length piece) c.place_of.ensures ∙ part_end_some piece c.args.last (some_bytes (length piece) c.is_empty.result c.is_empty.ensures c.if-is_empty.false))
     c.write_run.ensures.ledger
+
+pub returns-clause-bound : goal.returns-clause-bound
+returns-clause-bound g c tells =
+    let piece = c.args.piece.now in
+    let end = part_end_some piece c.args.last (some_bytes (length piece) c.is_empty.result c.is_empty.ensures c.if-is_empty.false) in
+    omega (arith, c.write_run.ensures.spent tells, c.place_of.ensures, end)

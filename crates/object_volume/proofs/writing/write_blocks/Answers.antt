@@ -3,14 +3,14 @@ use Rattle.std.proofs.lemmas.Bool.{eqb-true}
 use Rattle.std.proofs.Common.{◌≡◌, zero, suc, ℕ, ◌+◌, ◌-◌, ◌*◌, ◌/◌, ◌<◌, ◌≤◌, ◌++◌, List, [], ◌∷◌, length, take, drop, refl, arith, ap, sym, ◌∙◌, subst, append_assoc, length-append}
 use Rattle.std.proofs.lemmas.List.{take_all}
 use Rattle.site_disk.specs.ImagesLaws.{begins}
-use Rattle.site_disk.specs.CallsLaws.{uses_nothing}
+use Rattle.site_disk.specs.CallsLaws.{uses_nothing, on_ok}
 use Rattle.block_chain.specs.Blocks.{ascending}
 use Rattle.object_volume.specs.Objects.{place_of, bytes_at, Spares}
 use Rattle.object_volume.specs.ObjectsLaws.{spares_none, places-nil, bytes_at-nil}
 use Rattle.object_volume.specs.Taking.{Takes}
 use Rattle.object_volume.proofs.OutsideLemmas.{writes_again}
 use Rattle.object_volume.proofs.TakingLemmas.{takes_again, taken_below}
-use Rattle.object_volume.proofs.PuttingLemmas.{neighbours_more, places-single, flushed_crash, flushed_uses, flushed_bound, flushed_spares, flushed_stands, length-flushed, putting_at, put_all, puts_nothing}
+use Rattle.object_volume.proofs.PuttingLemmas.{neighbours_more, places-single, flushed_crash, flushed_uses, flushed_bound, flushed_grown, flushed_ends, flushed_spares, flushed_stands, length-flushed, putting_at, put_all, puts_nothing}
 use Rattle.object_volume.proofs.writing.write_blocks.Goals as goal
 use Rattle.object_volume.proofs.writing.write_blocks.Goals.{then-place-start+in_ok-write_run, else-place-start}
 
@@ -41,7 +41,8 @@ loop-at-init g c =
           (g.D.Disk.image c.args.disk.now) (g.D.Disk.image c.args.disk.now) (g.D.Disk.image c.args.disk.now) (λ b. spares_none c.args.chains.now.free (length file) b);
       uses = writes_again (uses_nothing c.requires.era) (uses_nothing c.requires.era) (omega arith);
       reaches = c.requires.reached;
-      bound = λ tells full. omega arith;
+      grown = λ tells. omega arith;
+      ends = λ tells. omega arith;
     }
 
 pub returns-in_err-write_run-clause-crash : goal.returns-in_err-write_run-clause-crash
@@ -93,7 +94,8 @@ loop-at-preserved g c =
             crash = λ tells. flushed_crash so_far new slice refl tells w.write_run.ensures.crash;
             uses = flushed_uses so_far new slice refl (length (so_far.done ++ so_far.run)) (omega (arith, both)) w.write_run.ensures.ledger;
             reaches = w.in_ok-write_run.ensures.reached;
-            bound = λ tells full. flushed_bound so_far new slice refl tells full w.write_run.ensures.bound;
+            grown = λ tells. flushed_grown so_far new slice refl tells (w.in_ok-write_run.ensures.bytes tells) (w.write_run.ensures.spent tells);
+            ends = λ tells. flushed_ends so_far new slice refl tells (w.in_ok-write_run.ensures.bytes tells);
           })
       | else-place-start w ↦
           let next : place_of block ≡ start + (at - from) = sym place ∙ w.if-place-start.false in
@@ -113,7 +115,8 @@ loop-at-preserved g c =
             crash = so_far.crash;
             uses = so_far.uses;
             reaches = so_far.reaches;
-            bound = so_far.bound;
+            grown = so_far.grown;
+            ends = so_far.ends;
           })
     ]
   where
@@ -145,6 +148,31 @@ pub returns-clause-crash : goal.returns-clause-crash
 returns-clause-crash g c tells =
     let cut = last_run c.loop-at.at c.loop-at.from c.args.piece.now c.loop-at.invariant.within (omega (arith, c.loop-at-test.false)) in
     flushed_crash c.loop-at.invariant c.write_run-2.new.disk (take (length c.args.piece.now - c.loop-at.from) (drop c.loop-at.from c.args.piece.now)) cut tells c.write_run-2.ensures.crash
+
+pub returns-in_err-write_run-clause-bound : goal.returns-in_err-write_run-clause-bound
+returns-in_err-write_run-clause-bound g c tells =
+    let so_far = c.loop-at.invariant in
+    let slice = take (c.loop-at.at - c.loop-at.from) (drop c.loop-at.from c.args.piece.now) in
+    let bound = flushed_bound so_far c.write_run.new.disk slice refl tells (c.write_run.ensures.spent tells) in
+    omega (arith, bound, so_far.within)
+
+pub returns-clause-bound : goal.returns-clause-bound
+returns-clause-bound g c tells =
+    let so_far = c.loop-at.invariant in
+    let cut = last_run c.loop-at.at c.loop-at.from c.args.piece.now so_far.within (omega (arith, c.loop-at-test.false)) in
+    let slice = take (length c.args.piece.now - c.loop-at.from) (drop c.loop-at.from c.args.piece.now) in
+    let bound = flushed_bound so_far c.write_run-2.new.disk slice cut tells (c.write_run-2.ensures.spent tells) in
+    omega (arith, bound, so_far.within)
+
+pub returns-clause-grown : goal.returns-clause-grown
+returns-clause-grown g c tells =
+    let so_far = c.loop-at.invariant in
+    let cut = last_run c.loop-at.at c.loop-at.from c.args.piece.now so_far.within (omega (arith, c.loop-at-test.false)) in
+    let new = c.write_run-2.new.disk in
+    let slice = take (length c.args.piece.now - c.loop-at.from) (drop c.loop-at.from c.args.piece.now) in
+    on_ok c.write_run-2.result
+    (λ wrote. let grown = flushed_grown so_far new slice cut tells wrote (c.write_run-2.ensures.spent tells) in omega (arith, grown, so_far.within))
+    (c.write_run-2.ensures.bytes tells)
 
 pub returns-clause-ledger : goal.returns-clause-ledger
 returns-clause-ledger g c =

@@ -11,7 +11,7 @@ use Rattle.object_volume.specs.Sending.{part_block, IsSent}
 use Rattle.object_volume.specs.Volumes.{table_or_none, blocks_or_none, open_blocks}
 use Rattle.object_volume.proofs.OutsideLemmas.{writes_again, after_call}
 use Rattle.object_volume.proofs.VolumeLemmas.{same_table}
-use Rattle.object_volume.proofs.SendingLemmas.{among_left, object_stands}
+use Rattle.object_volume.proofs.SendingLemmas.{among_left, object_stands, length-rest}
 use Rattle.block_chain.specs.RunLaws.{length-blocks_of_runs}
 use Rattle.object_volume.proofs.EndingLemmas.{part_kept, part_before_end, blocks_are, part_among}
 use Rattle.object_volume.proofs.volume.Volume.end.Goals as goal
@@ -83,6 +83,30 @@ returns-clause-ledger g c =
     let low = part_before_end sent.stored piece (part_kept sent.stored object.size sent.size) in
     let same = same_table volume.chains c.in-Some.chains c.in-Some.is in
     writes_again c.finish.ensures.ledger (after_call c.finish.ensures.ledger) (omega (arith, low, ap (λ (t : Table). t.blocks) same))
+
+pub returns-in_err-finish-clause-bound : goal.returns-in_err-finish-clause-bound
+returns-in_err-finish-clause-bound g c tells message s =
+    let volume = c.args.self.now in
+    let object = c.in-Some-take.object in
+    let now : volume.object ≡ Some object = cc (c.in-Some-take.ensures.value) in
+    let sent = sent_now c.in-Some.chains object s.object c.in-Some.is now s.begun s.sent in
+    let piece : List ℕ = take (object.size % 4096) volume.part in
+    let kept = part_kept sent.stored object.size sent.size in
+    let low = part_before_end sent.stored piece kept in
+    let same = same_table volume.chains c.in-Some.chains c.in-Some.is in
+    omega (arith, c.finish.ensures.bound tells, low, ap length kept, length-rest sent.stored, ap (λ (t : Table). t.blocks) same)
+
+pub returns-clause-bound : goal.returns-clause-bound
+returns-clause-bound g c tells message s =
+    let volume = c.args.self.now in
+    let object = c.in-Some-take.object in
+    let now : volume.object ≡ Some object = cc (c.in-Some-take.ensures.value) in
+    let sent = sent_now c.in-Some.chains object s.object c.in-Some.is now s.begun s.sent in
+    let piece : List ℕ = take (object.size % 4096) volume.part in
+    let kept = part_kept sent.stored object.size sent.size in
+    let low = part_before_end sent.stored piece kept in
+    let same = same_table volume.chains c.in-Some.chains c.in-Some.is in
+    omega (arith, c.finish.ensures.bound tells, low, ap length kept, length-rest sent.stored, ap (λ (t : Table). t.blocks) same)
 
 pub returns-clause-sent : goal.returns-clause-sent
 returns-clause-sent g c message s =

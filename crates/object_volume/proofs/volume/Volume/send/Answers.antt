@@ -72,12 +72,32 @@ returns-clause-begun g c =
     (subst (λ (o : Sending). IsSent g.D.Disk.is_modelled (g.D.Disk.bytes volume.disk) c.in-Some.chains o volume.part begun.message) (same_Some begun.sends.object object (sym begun.sends.begun ∙ c.in-Some-object.is))
     (subst (λ (t : Table). IsSent g.D.Disk.is_modelled (g.D.Disk.bytes volume.disk) t begun.sends.object volume.part begun.message) (same_table volume.chains c.in-Some.chains c.in-Some.is) begun.sends.sent)))
 
+-- the object's size is that of its bytes so far
+sent_size : (object begun : Sending) (message : List ℕ) → begun ≡ object → begun.size ≡ length message → object.size ≡ length message
+sent_size object begun message same is = sym (ap (λ (o : Sending). o.size) same) ∙ is
+
 pub returns-clause-bound : goal.returns-clause-bound
-returns-clause-bound g c tells full message s =
+returns-clause-bound g c tells message s =
     let volume = c.args.self.now in
     let chains = c.in-Some.chains in
     let object = c.in-Some-object.object in
+    let long : ℕ = length c.args.bytes.now in
     let limit : ℕ = length (g.D.Disk.bytes volume.disk) in
-    let size : object.size ≡ length message = ap (λ (o : Sending). o.size) (same_Some object s.object (sym c.in-Some-object.is ∙ s.begun)) ∙ s.sent.size in
-    subst (λ (k : ℕ). (g.D.Disk.ledger c.send_piece.new.disk).written ≤ (g.D.Disk.ledger volume.disk).written + 4096 * ((k % 4096 + length c.args.bytes.now) / 4096)) size
-    (c.send_piece.ensures.bound tells (subst (λ (t : Table). place_of t.blocks ≤ limit) (same_table volume.chains chains c.in-Some.is) full))
+    let before : ℕ = (g.D.Disk.ledger volume.disk).written in
+    let after : ℕ = (g.D.Disk.ledger c.send_piece.new.disk).written in
+    let size = sent_size object s.object message (same_Some s.object object (sym s.begun ∙ c.in-Some-object.is)) s.sent.size in
+    subst (λ (t : Table). after ≤ before + 4096 * ((length message % 4096 + long) / 4096) + (place_of t.blocks - limit)) (sym (same_table volume.chains chains c.in-Some.is))
+    (subst (λ (k : ℕ). after ≤ before + 4096 * ((k % 4096 + long) / 4096) + (place_of chains.blocks - limit)) size (c.send_piece.ensures.bound tells))
+
+pub returns-clause-grown : goal.returns-clause-grown
+returns-clause-grown g c tells message s =
+    let volume = c.args.self.now in
+    let object = c.in-Some-object.object in
+    let long : ℕ = length c.args.bytes.now in
+    let grown : ℕ = length (g.D.Disk.bytes c.send_piece.new.disk) - length (g.D.Disk.bytes volume.disk) in
+    let before : ℕ = (g.D.Disk.ledger volume.disk).written in
+    let after : ℕ = (g.D.Disk.ledger c.send_piece.new.disk).written in
+    let size = sent_size object s.object message (same_Some s.object object (sym s.begun ∙ c.in-Some-object.is)) s.sent.size in
+    on_ok c.send_piece.result
+    (λ less. subst (λ (k : ℕ). after ≤ before + 4096 * ((k % 4096 + long) / 4096) + grown) size less)
+    (c.send_piece.ensures.grown tells)
