@@ -1,7 +1,9 @@
 -- What a restore needs: of each space a chain of archives, and the log behind it.
-use Rattle.std.specs.Prelude.{◌≡◌, ℕ, ◌-◌, ◌≤◌, List, [], ◌∷◌, Bool, true, ◌&&◌, ◌||◌, ◌==◌, nat_lt, nat_le, if◌then◌else◌, filter, fold, Option, None, Some}
+use Rattle.std.specs.Prelude.{◌≡◌, ℕ, ◌≤◌, List, [], ◌∷◌, Bool, true, ◌&&◌, ◌||◌, ◌==◌, nat_lt, nat_le, if◌then◌else◌, filter, fold, Option, None, Some}
+use Rattle.std.specs.List.{list_any}
 use Rattle.log_history.specs.Live.{ResetPoint, live_by}
 use Rattle.backup_lines.specs.Lines.{Archive, Span}
+use Rattle.backup_lines.specs.declared.stretches.Stretch.{Stretch}
 
 -- an archive of a space and level, on the archive with this copy id, whose position is live at a position
 abbrev pub is_link : List ResetPoint → ℕ → ℕ → ℕ → ℕ → Archive → Bool
@@ -13,8 +15,11 @@ abbrev pub is_later : Archive → Option Archive → Bool
 is_later archive None = true
 is_later archive (Some best) = nat_lt best.at archive.at || ((best.at == archive.at) && nat_lt best.copy archive.copy)
 
+abbrev pub later_of : Option Archive → Archive → Option Archive
+later_of best archive = if is_later archive best then Some archive else best
+
 abbrev pub last_of : List Archive → Option Archive
-last_of archives = fold (λ best archive. if is_later archive best then Some archive else best) None archives
+last_of archives = fold later_of None archives
 
 abbrev pub last_link : List ResetPoint → ℕ → ℕ → ℕ → ℕ → List Archive → Option Archive
 last_link resets space level base q archives = last_of (filter (is_link resets space level base q) archives)
@@ -43,10 +48,17 @@ pub record IsNeededFrom (resets : List ResetPoint) (low q : ℕ) (span : Span) :
   pub from : low ≤ position
   pub live : live_by resets q position ≡ true
 
--- the same by a test: what is live at n between two positions, by the last Reset at or before n
+-- what is live at a position, in stretches of positions, the last first
+abbrev pub live_stretches : List ResetPoint → ℕ → List Stretch
+live_stretches [] n = record { from = 0; to = n } ∷ []
+live_stretches (point ∷ older) n =
+    if nat_lt n point.at then live_stretches older n
+    else record { from = point.at; to = n } ∷ (if nat_lt point.target point.at then live_stretches older point.target else [])
+
+-- a stretch has a position from one up to another
+abbrev pub reaches : ℕ → ℕ → Stretch → Bool
+reaches from to stretch = nat_le from to && (nat_le stretch.from to && nat_le from stretch.to)
+
+-- a position from one up to another is live at n
 abbrev pub is_live_between : List ResetPoint → ℕ → ℕ → ℕ → Bool
-is_live_between [] n from to = nat_le from to && nat_le from n
-is_live_between (point ∷ older) n from to =
-    if nat_lt n point.at then is_live_between older n from to
-    else ((nat_le from to && nat_le from n && nat_le point.at to)
-    || (nat_lt point.target point.at && nat_lt from point.at && is_live_between older point.target from (if nat_lt to point.at then to else (point.at - 1))))
+is_live_between resets n from to = list_any (reaches from to) (live_stretches resets n)

@@ -1,7 +1,8 @@
 -- The files of the log: what is known of each, and the position that a point in time comes to.
-use Rattle.std.specs.Prelude.{◌≡◌, ℕ, ◌-◌, ◌<◌, List, [], ◌∷◌, Bool, true, false, ◌&&◌, ◌==◌, nat_lt, if◌then◌else◌, filter, reverse, fold, Option, None, Some, Contains}
-use Rattle.std.specs.List.{filter_map}
+use Rattle.std.specs.Prelude.{◌≡◌, ℕ, ◌+◌, ◌-◌, ◌<◌, List, [], ◌∷◌, Bool, true, false, ◌&&◌, ◌==◌, nat_lt, nat_le, if◌then◌else◌, filter, reverse, fold, Option, None, Some, Contains}
+use Rattle.std.specs.List.{filter_map, prefix_len}
 use Rattle.std.specs.Option.{option_or, option_map}
+use Rattle.log_history.specs.History.{LogEntry, commit, reset}
 use Rattle.log_history.specs.Live.{ResetPoint}
 use Rattle.backup_lines.specs.Lines.{Span, Line, is_live, all_spans}
 
@@ -86,3 +87,14 @@ abbrev pub find_point : Point → List Span → Found
 find_point at_end spans = at_position (end_of spans)
 find_point (at_file file) spans = end_of_file file spans
 find_point (at_time time) spans = by_time time 0 spans
+
+-- no Commit or Reset that is later than a time
+abbrev pub is_by : ℕ → LogEntry → Bool
+is_by time (commit txn at) = nat_le at time
+is_by time (reset restore target at) = nat_le at time
+is_by time entry = true
+
+-- The position that a time comes to in a file, whose records these are: that of the record before the first Commit or Reset that is
+-- later.
+abbrev pub time_within : Span → ℕ → List LogEntry → ℕ
+time_within span time entries = (span.first - 1) + prefix_len (is_by time) entries

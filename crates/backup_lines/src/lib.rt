@@ -5,8 +5,14 @@
 //! archives of a space, and what a restore needs.
 #![tactic(auto)]
 
+mod lanes;
 mod lines;
+mod objects;
 mod points;
+mod stretches;
 
+pub use lanes::{Chain, LaneState};
 pub use lines::{Archive, FileSpan, Line};
+pub use objects::{Lacking, LackingList, Need, What};
 pub use points::{Point, Restore};
+pub use stretches::Stretch;

@@ -1,0 +1,4 @@
+mod PlanLemmas
+mod StretchLemmas
+mod FileLemmas
+mod SpanLemmas
