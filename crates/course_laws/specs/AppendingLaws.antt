@@ -50,7 +50,7 @@ lane_can site space (replays restore chain upto part) none has = stays refl
 lane_can site space stale none has = stays refl
 lane_can site space lost none has = stays refl
 
-lanes_can : (site : Site) (space : ℕ) (lanes : List LaneState) → site.active ≡ None → HasRing site → EachCan site space lanes (map (to_end (length site.history)) lanes)
+pub lanes_can : (site : Site) (space : ℕ) (lanes : List LaneState) → site.active ≡ None → HasRing site → EachCan site space lanes (map (to_end (length site.history)) lanes)
 lanes_can site space [] none has = tt
 lanes_can site space (lane ∷ lanes) none has = (lane_can site space lane none has, lanes_can site (suc space) lanes none has)
 
@@ -74,11 +74,11 @@ lane_is_there end (replays restore chain upto part) settled is = settled
 lane_is_there end stale settled is = settled
 lane_is_there end lost settled is = tt
 
-first_true : (a b : Bool) → (a && b) ≡ true → a ≡ true
+pub first_true : (a b : Bool) → (a && b) ≡ true → a ≡ true
 first_true true b is = refl
 first_true false b is = is
 
-second_true : (a b : Bool) → (a && b) ≡ true → b ≡ true
+pub second_true : (a b : Bool) → (a && b) ≡ true → b ≡ true
 second_true true b is = is
 second_true false b is = absurd (false≢true is)
 

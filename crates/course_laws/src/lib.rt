@@ -4,6 +4,5 @@
 mod laws;
 
 pub use laws::{
-    a_restart_ends_the_restore, formatting_passes_fit_worlds, showing_passes_fit_sites,
-    transactions_pass_fit_sites,
+    formatting_passes_fit_worlds, showing_passes_fit_sites, transactions_pass_fit_sites,
 };

@@ -72,9 +72,15 @@ pub record IsLink (lines : List Line) (space level base : ℕ) (archive : Archiv
   pub same_level : archive.level ≡ level
   pub same_base : archive.base_copy ≡ base
 
-last_is_link : (lines : List Line) (resets : List ResetPoint) (space level base q : ℕ) (archive : Archive)
-    → last_link resets space level base q (live_archives lines) ≡ Some archive → IsLink lines space level base archive
-last_is_link lines resets space level base q archive is =
+-- whose position is live at another
+pub record IsLiveLink (lines : List Line) (resets : List ResetPoint) (space level base q : ℕ) (archive : Archive) : Type 0 where
+  pub link : IsLink lines space level base archive
+  pub is_live : live_by resets q archive.at ≡ true
+
+-- The last link is one, and is live.
+pub last_link_is : (lines : List Line) (resets : List ResetPoint) (space level base q : ℕ) (archive : Archive)
+    → last_link resets space level base q (live_archives lines) ≡ Some archive → IsLiveLink lines resets space level base q archive
+last_link_is lines resets space level base q archive is =
     let holds : (is_link resets space level base q archive ≡ true) × Contains lines (archived archive) =
     picked (λ a. (is_link resets space level base q a ≡ true) × Contains lines (archived a))
     (filter (is_link resets space level base q) (live_archives lines)) None archive
@@ -82,10 +88,13 @@ last_is_link lines resets space level base q archive is =
     (all_filter (λ a. Contains lines (archived a)) (λ a. is_live lines a.copy) (filter_map archive_in lines) (of_lines (λ a. Contains lines (archived a)) lines (λ a has. has))))
     (λ a none. absurd (none_some none)) is in
     record {
-      line = holds.1;
-      same_space = first (archive.space == space) refl (archive.level == level) (archive.base_copy == base) (live_by resets q archive.at) holds.0;
-      same_level = second (archive.space == space) (archive.level == level) refl (archive.base_copy == base) (live_by resets q archive.at) holds.0;
-      same_base = third (archive.space == space) (archive.level == level) (archive.base_copy == base) refl (live_by resets q archive.at) holds.0;
+      link = record {
+        line = holds.1;
+        same_space = first (archive.space == space) refl (archive.level == level) (archive.base_copy == base) (live_by resets q archive.at) holds.0;
+        same_level = second (archive.space == space) (archive.level == level) refl (archive.base_copy == base) (live_by resets q archive.at) holds.0;
+        same_base = third (archive.space == space) (archive.level == level) (archive.base_copy == base) refl (live_by resets q archive.at) holds.0;
+      };
+      is_live = fourth (archive.space == space) (archive.level == level) (archive.base_copy == base) (live_by resets q archive.at) holds.0;
     }
   where
     first : (a : Bool) → (archive.space == space) ≡ a → (b c d : Bool) → ((a && b) && c) && d ≡ true → archive.space ≡ space
@@ -100,6 +109,14 @@ last_is_link lines resets space level base q archive is =
     third : (a b c : Bool) → (archive.base_copy == base) ≡ c → (d : Bool) → ((a && b) && c) && d ≡ true → archive.base_copy ≡ base
     third a b true same d all = grind (arith, nat_tests, same)
     third a b false same d all = absurd (grind (arith, all))
+
+    fourth : (a b c d : Bool) → ((a && b) && c) && d ≡ true → d ≡ true
+    fourth a b c true all = refl
+    fourth a b c false all = grind (arith, all)
+
+last_is_link : (lines : List Line) (resets : List ResetPoint) (space level base q : ℕ) (archive : Archive)
+    → last_link resets space level base q (live_archives lines) ≡ Some archive → IsLink lines space level base archive
+last_is_link lines resets space level base q archive is = (last_link_is lines resets space level base q archive is).link
 
 -- no two archives with lines have the same copy id
 

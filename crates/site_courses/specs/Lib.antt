@@ -6,3 +6,5 @@ pub mod Backups
 pub mod Upkeep
 pub mod Plans
 pub mod Restores
+pub mod Generated
+pub mod Sessions

@@ -50,11 +50,16 @@ goes_by number chain lane = false
 abbrev pub all_go_by : Site → ℕ → ℕ → Bool
 all_go_by site number to = all_lanes (λ space lane. goes_by number (chain_ids site space to) lane) 0 site.lanes
 
--- each other lane is emptied; with the log lost each is
+-- a lane needn't be emptied: it is, or lanes may go on, and it goes by its plan
+abbrev pub is_ready : Bool → ℕ → List ℕ → LaneState → Bool
+is_ready go_on number chain (blank restore) = restore == number
+is_ready go_on number chain lane = go_on && goes_by number chain lane
+
+-- each other lane is emptied; with the log lost no lane goes on
 abbrev pub empty_lanes : Bool → ℕ → ℕ → SiteCourse
-empty_lanes keeps number to site =
-    move_to (λ space lane. keeps && goes_by number (chain_ids site space to) lane)
-    (λ space lane. if keeps && goes_by number (chain_ids site space to) lane then lane else blank number) site
+empty_lanes go_on number to site =
+    move_to (λ space lane. is_ready go_on number (chain_ids site space to) lane)
+    (λ space lane. if is_ready go_on number (chain_ids site space to) lane then lane else blank number) site
 
 -- with the log lost it is formatted behind what is known of it
 abbrev pub format_lost : Option Ring → List Move

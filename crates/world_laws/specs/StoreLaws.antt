@@ -49,7 +49,7 @@ added_behind last (k ∷ added) kept follow is = by (contains_cases kept k added
     by (inl same) rest = subst (λ (other : Kept). last < other.object.copy) same (omega (arith, follow.0))
     by (inr later) rest = omega (arith, rest later)
 
-holds_after : (added : List Kept) (deleted : List ℕ) (store : Store) (copy volume : ℕ) (bytes : List ℕ) → FollowFrom store.last added → copy ≤ store.last
+pub holds_after : (added : List Kept) (deleted : List ℕ) (store : Store) (copy volume : ℕ) (bytes : List ℕ) → FollowFrom store.last added → copy ≤ store.last
     → Holds store copy volume bytes → Holds (store_after added deleted store) copy volume bytes
 holds_after added deleted store copy volume bytes follow le holds kept is same = ⊎_elim
     (λ old. holds kept (contains_filter (λ k. not (is_among deleted k.object.copy)) store.kept kept old) same)

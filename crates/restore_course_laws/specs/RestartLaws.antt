@@ -1,4 +1,4 @@
--- Each move of a restart may be made, and a restart that answers well has ended the restore.
+-- A restart makes the moves of one, and where it answers well it has ended the restore.
 use Rattle.std.specs.Prelude.{◌≡◌, ℕ, zero, suc, ◌^◌, ◌<◌, ◌≤◌, ◌==◌, List, [], ◌∷◌, ◌++◌, length, map, filter, Bool, true, false, nat_le, if◌then◌else◌, Option, None, Some}
 use Rattle.std.specs.List.{AllByRecursion}
 use mathlib.Core.Logic.{inl, inr}
@@ -20,10 +20,10 @@ use Rattle.site_courses.specs.Faults.{Fault, Lacking, no_level_0, log_full, no_p
 use Rattle.site_courses.specs.Courses.{check, in_turn, if_log_lost, if_any_lost, if_lost, first_lost}
 use Rattle.site_courses.specs.Plans.{chain_at, chain_ids, lacking_chains, lacking_at, first_of_lists, if_any}
 use Rattle.site_courses.specs.Restores.{is_reset_of, ends_in_reset, if_no_position, make_ready, go_on, finish, if_prepared, restart_before, restart_from}
-use Rattle.course_laws.specs.Leading.{Leads, LeadsFrom, leads_none, leads_then}
+use Rattle.restore_course_laws.specs.Restarting.{Restarts, RestartsFrom, restarts_none, restarts_then}
 use Rattle.course_laws.specs.AppendingLaws.{not_at_most, ring_there}
-use Rattle.course_laws.specs.PreparingLaws.{same_number, IsBefore, IsReady, leads_first, leads_again}
-use Rattle.course_laws.specs.RestoringLaws.{IsEnding, AreEnding, HasEnded, leads_finish, leads_go_on}
+use Rattle.restore_course_laws.specs.PreparingLaws.{same_number, IsBefore, IsReady, leads_first, leads_again}
+use Rattle.restore_course_laws.specs.RestoringLaws.{IsEnding, AreEnding, HasEnded, leads_finish, leads_go_on}
 
 -- what the checks tell
 
@@ -63,7 +63,7 @@ none_passes test (suc count) n is lt = ⊎_elim
 some_in : (n : ℕ) → (n == 0) ≡ false → 1 ≤ n
 some_in n is = grind (arith, nat_tests, is)
 
-chains_there : (site : Site) (number to : ℕ) → if_any (lacking_at site number to) ≡ None → (space : ℕ) → space < length site.head.spaces → 1 ≤ length (chain_ids site space to)
+pub chains_there : (site : Site) (number to : ℕ) → if_any (lacking_at site number to) ≡ None → (space : ℕ) → space < length site.head.spaces → 1 ≤ length (chain_ids site space to)
 chains_there site number to is space lt =
     let none : filter (λ n. length (chain_at site n to) == 0) (numbers (length site.head.spaces)) ≡ [] =
     map_none _ (first_none (lacking_chains site to) _ (none_lacking (lacking_at site number to) is)) in
@@ -73,7 +73,7 @@ chains_there site number to is space lt =
       some_in (length (chain_at site space to)) (none_passes (λ n. length (chain_at site n to) == 0) (length site.head.spaces) space none lt),
     )
 
-position_there : (site : Site) → if_no_position site ≡ None → length site.history < 2 ^ 48
+pub position_there : (site : Site) → if_no_position site ≡ None → length site.history < 2 ^ 48
 position_there site is = by (nat_le (2 ^ 48) (length site.history)) refl is
   where
     by : (b : Bool) → nat_le (2 ^ 48) (length site.history) ≡ b
@@ -194,46 +194,46 @@ module _ (restore : Active) (moment : ℕ) where
   abbrev Checked : Site → Type 0
   Checked site = (Unreset site × (if_any (lacking_at site restore.number restore.to) ≡ None)) × (if_no_position site ≡ None)
 
-  leads_ready : LeadsFrom Checked (make_ready restore.prepared restore.number restore.to) (IsReady restore true)
+  leads_ready : RestartsFrom Checked (make_ready restore.prepared restore.number restore.to) (IsReady restore true)
   leads_ready site fit checked = by restore.prepared refl
     where
-      by : (b : Bool) → restore.prepared ≡ b → Leads site (make_ready b restore.number restore.to site) (IsReady restore true)
+      by : (b : Bool) → restore.prepared ≡ b → Restarts site (make_ready b restore.number restore.to site) (IsReady restore true)
       by false is = leads_first restore site fit (is_before site checked.0.0 checked.0.1 checked.1 false is)
       by true is = leads_again restore site fit (record {
         state = is_before site checked.0.0 checked.0.1 checked.1 true is;
         has = ring_there site site.ring refl (when_prepared if_log_lost site is checked.0.0.0.0.1);
       })
 
-  leads_before : LeadsFrom Unreset (restart_before restore moment) (HasEnded restore)
+  leads_before : RestartsFrom Unreset (restart_before restore moment) (HasEnded restore)
   leads_before =
-      leads_then Unreset First (HasEnded restore) (check (λ site. if_any (lacking_at site restore.number restore.to)))
+      restarts_then Unreset First (HasEnded restore) (check (λ site. if_any (lacking_at site restore.number restore.to)))
       (in_turn (check if_no_position ∷ make_ready restore.prepared restore.number restore.to ∷ go_on restore.number restore.to moment ∷ []))
       (λ site fit begun. record { can = tt; then_holds = λ none. (begun, none) })
-      (leads_then First Checked (HasEnded restore) (check if_no_position) (in_turn (make_ready restore.prepared restore.number restore.to ∷ go_on restore.number restore.to moment ∷ []))
+      (restarts_then First Checked (HasEnded restore) (check if_no_position) (in_turn (make_ready restore.prepared restore.number restore.to ∷ go_on restore.number restore.to moment ∷ []))
       (λ site fit begun. record { can = tt; then_holds = λ none. (begun, none) })
-      (leads_then Checked (IsReady restore true) (HasEnded restore) (make_ready restore.prepared restore.number restore.to) (in_turn (go_on restore.number restore.to moment ∷ []))
+      (restarts_then Checked (IsReady restore true) (HasEnded restore) (make_ready restore.prepared restore.number restore.to) (in_turn (go_on restore.number restore.to moment ∷ []))
       leads_ready
-      (leads_then (IsReady restore true) (HasEnded restore) (HasEnded restore) (go_on restore.number restore.to moment) (in_turn []) (leads_go_on restore moment)
-      (leads_none (HasEnded restore)))))
+      (restarts_then (IsReady restore true) (HasEnded restore) (HasEnded restore) (go_on restore.number restore.to moment) (in_turn []) (leads_go_on restore moment)
+      (restarts_none (HasEnded restore)))))
     where
       First : Site → Type 0
       First site = Unreset site × (if_any (lacking_at site restore.number restore.to) ≡ None)
 
-  leads_rest : LeadsFrom WithLanes (λ site. if ends_in_reset site restore.number then finish site else restart_before restore moment site) (HasEnded restore)
+  leads_rest : RestartsFrom WithLanes (λ site. if ends_in_reset site restore.number then finish site else restart_before restore moment site) (HasEnded restore)
   leads_rest site fit begun = by (ends_in_reset site restore.number) refl
     where
-      by : (b : Bool) → ends_in_reset site restore.number ≡ b → Leads site (if b then finish site else restart_before restore moment site) (HasEnded restore)
+      by : (b : Bool) → ends_in_reset site restore.number ≡ b → Restarts site (if b then finish site else restart_before restore moment site) (HasEnded restore)
       by true is = leads_finish restore site fit (is_ending site fit begun is)
       by false is = leads_before site fit (begun, is)
 
-  -- A restart of a restore that is under way: each of its moves may be made, and where it answers well the restore has ended.
-  pub leads_restart_from : LeadsFrom Begun (restart_from restore moment) (HasEnded restore)
+  -- A restart of a restore that is under way makes the moves of one, and where it answers well the restore has ended.
+  pub leads_restart_from : RestartsFrom Begun (restart_from restore moment) (HasEnded restore)
   leads_restart_from =
-      leads_then Begun WithLog (HasEnded restore) (if_prepared restore if_log_lost)
+      restarts_then Begun WithLog (HasEnded restore) (if_prepared restore if_log_lost)
       (in_turn (if_prepared restore if_any_lost ∷ (λ site. if ends_in_reset site restore.number then finish site else restart_before restore moment site) ∷ []))
       (λ site fit begun. record { can = tt; then_holds = λ none. (begun, none) })
-      (leads_then WithLog WithLanes (HasEnded restore) (if_prepared restore if_any_lost)
+      (restarts_then WithLog WithLanes (HasEnded restore) (if_prepared restore if_any_lost)
       (in_turn ((λ site. if ends_in_reset site restore.number then finish site else restart_before restore moment site) ∷ []))
       (λ site fit begun. record { can = tt; then_holds = λ none. (begun, none) })
-      (leads_then WithLanes (HasEnded restore) (HasEnded restore) (λ site. if ends_in_reset site restore.number then finish site else restart_before restore moment site) (in_turn [])
-      leads_rest (leads_none (HasEnded restore))))
+      (restarts_then WithLanes (HasEnded restore) (HasEnded restore) (λ site. if ends_in_reset site restore.number then finish site else restart_before restore moment site) (in_turn [])
+      leads_rest (restarts_none (HasEnded restore))))

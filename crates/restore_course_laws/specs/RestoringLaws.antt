@@ -4,7 +4,8 @@ use Rattle.std.specs.List.{AllByRecursion}
 use Rattle.std.specs.Option.{option_map}
 use mathlib.Core.Logic.{inl, inr}
 use Rattle.std.proofs.Common.{arith, refl, sym, ap, subst, ◌∙◌, ⊎_elim, length-append}
-use Rattle.std.proofs.lemmas.Bool.{false≢true}
+use Rattle.std.proofs.lemmas.Bool.{false≢true, true≢false}
+use Rattle.std.proofs.lemmas.Bool.Decides.{nat_tests}
 use Rattle.log_history.specs.History.{reset, entry_at}
 use Rattle.log_history.specs.Transactions.{last_time}
 use Rattle.walks.specs.Courses.{after_all, make}
@@ -13,19 +14,22 @@ use Rattle.site_worlds.specs.Files.{first_of_file, HasRecords, IsEmptyAtEnd, IsS
 use Rattle.site_worlds.specs.Lanes.{IsReplayed, IsAtEnd, EachLane}
 use Rattle.site_worlds.specs.Fitness.{FitRing}
 use Rattle.site_worlds.specs.Moves.{Move, with_prepared, opened, less_oldest, append_reset, drop_oldest, next_file, end_restore, move_lanes, site_after, site_rules}
-use Rattle.site_worlds.specs.Allowed.{HasRing, GoesOnBy, CanLane, stays, restores, finishes, EachCan, CanReset}
-use Rattle.world_laws.specs.ListLaws.{none_some}
+use Rattle.site_worlds.specs.Allowed.{HasRing, GoesOnBy, CanLane, stays, restores, finishes as may_finish, EachCan, CanReset}
+use Rattle.world_laws.specs.ListLaws.{none_some, some_same}
 use Rattle.world_laws.specs.GrowthLaws.{entry_behind, first_beyond}
 use Rattle.world_laws.specs.RingLaws.{ring_of, saved_of}
 use Rattle.world_laws.specs.OpenLaws.{empty_at_end}
-use Rattle.world_laws.specs.KeptLaws.{CanAll}
+use Rattle.site_stories.specs.Restarts.{IsRestart, IsBeforeReset, brings, finishes}
 use Rattle.site_courses.specs.Courses.{in_turn}
 use Rattle.site_courses.specs.Appending.{is_ring_full}
 use Rattle.site_courses.specs.Plans.{chain_ids}
 use Rattle.site_courses.specs.Restores.{each_lane, all_lanes, is_replayed_at, restore_lanes, is_open_and_empty, file_for_reset, write_reset, stands_at, finish, go_on}
-use Rattle.course_laws.specs.Leading.{Leads, LeadsFrom, leads_none, leads_then}
+use Rattle.restore_course_laws.specs.Restarting.{Restarts, RestartsFrom, restarts_none, restarts_then, each_goal, some_lane_moves}
 use Rattle.course_laws.specs.AppendingLaws.{above, at_most, not_above, not_at_most, one_on}
-use Rattle.course_laws.specs.PreparingLaws.{both_true, same_number, IsReady}
+use Rattle.restore_course_laws.specs.PreparingLaws.{both_true, same_number, IsReady}
+
+number_there : (n : ℕ) → ((n == n) && (0 == 0)) ≡ true
+number_there n = grind (arith, nat_tests)
 
 -- a lane at the restore's position
 abbrev pub IsBrought : Active → LaneState → Type 0
@@ -53,13 +57,25 @@ all_ending restore end [] all = tt
 all_ending restore end (lane ∷ lanes) all = (inr all.0, all_ending restore end lanes all.1)
 
 module _ (restore : Active) where
+  -- each lane is at the restore's position, by the chain that is planned for it
+  abbrev pub HaveCome : Site → Type 0
+  HaveCome site = EachLane (λ space lane. lane ≡ replays restore.number (chain_ids site space restore.to) restore.to 0) 0 site.lanes
+
+  come_brought : (chain : ℕ → List ℕ) (space : ℕ) (lanes : List LaneState) → EachLane (λ n lane. lane ≡ replays restore.number (chain n) restore.to 0) space lanes
+      → AllByRecursion (IsBrought restore) lanes
+  come_brought chain space [] all = tt
+  come_brought chain space (lane ∷ lanes) all = (subst (IsBrought restore) (sym all.0) (refl, refl, refl), come_brought chain (suc space) lanes all.1)
+
+  all_come : (site : Site) → HaveCome site → AllByRecursion (IsBrought restore) site.lanes
+  all_come site come = come_brought (λ space. chain_ids site space restore.to) 0 site.lanes come
+
   -- all lanes are at the restore's position, before its Reset
   pub record AreBrought (site : Site) : Type 0 where
     pub is : site.active ≡ Some (with_prepared true restore)
     pub before : EndsInReset site.history (with_prepared true restore) → ⊥
     pub few : length site.history < 2 ^ 48
     pub has : HasRing site
-    pub all : AllByRecursion (IsBrought restore) site.lanes
+    pub come : HaveCome site
 
   -- the Reset is written
   pub record AreEnding (site : Site) : Type 0 where
@@ -95,32 +111,46 @@ module _ (restore : Active) where
       lanes_restore (suc space) lanes (omega (arith, within)) all.1,
     )
 
-  lanes_brought : (site : Site) (space : ℕ) (lanes : List LaneState) → AllByRecursion (IsBrought restore) (each_lane (λ n lane. replays restore.number (chain_ids site n restore.to) restore.to 0) space lanes)
-  lanes_brought site space [] = tt
-  lanes_brought site space (lane ∷ lanes) = ((refl, refl, refl), lanes_brought site (suc space) lanes)
+  lanes_come : (site : Site) (space : ℕ) (lanes : List LaneState)
+      → EachLane (λ n lane. lane ≡ replays restore.number (chain_ids site n restore.to) restore.to 0) space
+      (each_lane (λ n lane. replays restore.number (chain_ids site n restore.to) restore.to 0) space lanes)
+  lanes_come site space [] = tt
+  lanes_come site space (lane ∷ lanes) = (refl, lanes_come site (suc space) lanes)
 
-  one_brought : (chain : List ℕ) (lane : LaneState) → GoesOnBy restore.number chain lane → is_replayed_at restore.to lane ≡ true → IsBrought restore lane
-  one_brought chain (replays number other upto part) goes is =
-      let parts = both_true (upto == restore.to) (part == 0) is in (goes.0, same_number upto restore.to parts.0, same_number part 0 parts.1)
-  one_brought chain (stands upto part) goes is = absurd (false≢true is)
-  one_brought chain (blank number) goes is = absurd (false≢true is)
-  one_brought chain (merges number other archive entries) goes is = absurd (false≢true is)
-  one_brought chain stale goes is = absurd (false≢true is)
-  one_brought chain lost goes is = absurd (false≢true is)
+  one_come : (chain : List ℕ) (lane : LaneState) → GoesOnBy restore.number chain lane → is_replayed_at restore.to lane ≡ true
+      → lane ≡ replays restore.number chain restore.to 0
+  one_come chain (replays number other upto part) goes is =
+      let parts = both_true (upto == restore.to) (part == 0) is in
+      ap (λ (n : ℕ). replays n other upto part) goes.0 ∙ ap (λ (l : List ℕ). replays restore.number l upto part) goes.1
+      ∙ ap (λ (n : ℕ). replays restore.number chain n part) (same_number upto restore.to parts.0)
+      ∙ ap (replays restore.number chain restore.to) (same_number part 0 parts.1)
+  one_come chain (stands upto part) goes is = absurd (false≢true is)
+  one_come chain (blank number) goes is = absurd (false≢true is)
+  one_come chain (merges number other archive entries) goes is = absurd (false≢true is)
+  one_come chain stale goes is = absurd (false≢true is)
+  one_come chain lost goes is = absurd (false≢true is)
 
-  all_brought : (chain : ℕ → List ℕ) (space : ℕ) (lanes : List LaneState) → EachLane (λ n lane. GoesOnBy restore.number (chain n) lane) space lanes
-      → all_lanes (λ n lane. is_replayed_at restore.to lane) space lanes ≡ true → AllByRecursion (IsBrought restore) lanes
-  all_brought chain space [] all is = tt
-  all_brought chain space (lane ∷ lanes) all is =
+  have_come : (chain : ℕ → List ℕ) (space : ℕ) (lanes : List LaneState) → EachLane (λ n lane. GoesOnBy restore.number (chain n) lane) space lanes
+      → all_lanes (λ n lane. is_replayed_at restore.to lane) space lanes ≡ true
+      → EachLane (λ n lane. lane ≡ replays restore.number (chain n) restore.to 0) space lanes
+  have_come chain space [] all is = tt
+  have_come chain space (lane ∷ lanes) all is =
       let parts = both_true (is_replayed_at restore.to lane) (all_lanes (λ n l. is_replayed_at restore.to l) (suc space) lanes) is in
-      (one_brought (chain space) lane all.0 parts.0, all_brought chain (suc space) lanes all.1 parts.1)
+      (one_come (chain space) lane all.0 parts.0, have_come chain (suc space) lanes all.1 parts.1)
 
-  leads_restore_lanes : LeadsFrom (IsReady restore true) (restore_lanes restore.number restore.to) AreBrought
+  not_replayed : (site : Site) (space : ℕ) (lane : LaneState) → is_replayed_at restore.to lane ≡ false
+      → replays restore.number (chain_ids site space restore.to) restore.to 0 ≡ lane → ⊥
+  not_replayed site space lane isnt same = true≢false (sym there ∙ isnt)
+    where
+      there : is_replayed_at restore.to lane ≡ true
+      there = subst (λ (l : LaneState). is_replayed_at restore.to l ≡ true) same (number_there restore.to)
+
+  leads_restore_lanes : RestartsFrom (IsReady restore true) (restore_lanes restore.number restore.to) AreBrought
   unfolding site_rules
   leads_restore_lanes site fit ready = by (all_lanes (λ space lane. is_replayed_at restore.to lane) 0 site.lanes) refl
     where
       by : (b : Bool) → all_lanes (λ space lane. is_replayed_at restore.to lane) 0 site.lanes ≡ b
-          → Leads site (make (if b then [] else move_lanes (each_lane (λ space lane. replays restore.number (chain_ids site space restore.to) restore.to 0) 0 site.lanes) ∷ [])) AreBrought
+          → Restarts site (make (if b then [] else move_lanes (each_lane (λ space lane. replays restore.number (chain_ids site space restore.to) restore.to 0) 0 site.lanes) ∷ [])) AreBrought
       by true is = record {
         can = tt;
         then_holds = λ none. record {
@@ -128,17 +158,30 @@ module _ (restore : Active) where
           before = ready.state.before;
           few = ready.state.few;
           has = ready.has;
-          all = all_brought (λ space. chain_ids site space restore.to) 0 site.lanes ready.go is;
+          come = have_come (λ space. chain_ids site space restore.to) 0 site.lanes ready.go is;
         };
       }
       by false is = record {
-        can = (lanes_restore site ready 0 site.lanes (omega (arith, fit.lanes.count)) ready.go, tt);
+        can = (
+          record {
+            under = with_prepared true restore;
+            is = ready.state.is;
+            next = (
+              some_lane_moves (λ space lane. is_replayed_at restore.to lane) (λ space lane. replays restore.number (chain_ids site space restore.to) restore.to 0)
+                  (not_replayed site) 0 site.lanes is,
+              brings refl (each_goal (λ space lane g. g ≡ replays restore.number (chain_ids site space restore.to) restore.to 0)
+                  (λ space lane. replays restore.number (chain_ids site space restore.to) restore.to 0) (λ space lane. refl) 0 site.lanes),
+            );
+            can = lanes_restore site ready 0 site.lanes (omega (arith, fit.lanes.count)) ready.go;
+          },
+          tt,
+        );
         then_holds = λ none. record {
           is = ready.state.is;
           before = ready.state.before;
           few = ready.state.few;
           has = record { ring = ready.has.ring; is = ready.has.is };
-          all = lanes_brought site 0 site.lanes;
+          come = lanes_come site 0 site.lanes;
         };
       }
 
@@ -175,25 +218,47 @@ module _ (restore : Active) where
     all = all_ending restore (length (site.history ++ reset restore.number restore.to time ∷ [])) site.lanes all;
   }
 
+  -- the Reset is the next move of the restore
+  resets : (site : Site) (has : HasRing site) → site.active ≡ Some (with_prepared true restore) → (EndsInReset site.history (with_prepared true restore) → ⊥)
+      → length site.history < 2 ^ 48 → HaveCome site → has.ring.is_open ≡ true → IsEmptyAtEnd site.starts site.history
+      → (time : ℕ) → last_time site.history ≤ time → IsRestart (append_reset restore.number restore.to time ∷ []) site
+  resets site has is before few come is_open empty time le = (
+    record {
+      under = with_prepared true restore;
+      is = is;
+      next = come;
+      can = can_reset site has is before few (all_come site come) is_open empty time le;
+    },
+    tt,
+  )
+
   module _ (site : Site) (has : HasRing site) (is : site.active ≡ Some (with_prepared true restore)) (before : EndsInReset site.history (with_prepared true restore) → ⊥)
-      (few : length site.history < 2 ^ 48) (all : AllByRecursion (IsBrought restore) site.lanes) (time : ℕ) (le : last_time site.history ≤ time)
+      (few : length site.history < 2 ^ 48) (come : HaveCome site) (time : ℕ) (le : last_time site.history ≤ time)
       (filled : HasRecords site.starts site.history (length site.starts)) where
     abbrev has_opened : HasRing (site_after next_file site)
     has_opened = record { ring = record has.ring { is_open = true }; is = ap (option_map opened) has.is }
 
-    can_next_reset : suc (length site.starts) < has.ring.oldest + 8 → CanAll (next_file ∷ append_reset restore.number restore.to time ∷ []) site
+    abbrev now_resets : IsBeforeReset (with_prepared true restore) site
+    now_resets = record { prepared = refl; before = before; come = come }
+
+    can_next_reset : suc (length site.starts) < has.ring.oldest + 8 → IsRestart (next_file ∷ append_reset restore.number restore.to time ∷ []) site
     can_next_reset left = (
-      record { has = has; filled = filled; few = few; room = left },
-      (can_reset (site_after next_file site) has_opened is before few all refl (empty_at_end site.history site.starts) time le, tt),
+      record {
+        under = with_prepared true restore;
+        is = is;
+        next = now_resets;
+        can = record { has = has; filled = filled; few = few; room = left };
+      },
+      resets (site_after next_file site) has_opened is before few come refl (empty_at_end site.history site.starts) time le,
     )
 
     next_ending : AreEnding (after_all site_rules (next_file ∷ append_reset restore.number restore.to time ∷ []) site)
     unfolding site_rules
-    next_ending = ending (site_after next_file site) has_opened is all time
+    next_ending = ending (site_after next_file site) has_opened is (all_come site come) time
 
-  leads_write : (moment : ℕ) → LeadsFrom AreBrought (write_reset restore.number restore.to moment) AreEnding
+  leads_write : (moment : ℕ) → RestartsFrom AreBrought (write_reset restore.number restore.to moment) AreEnding
   unfolding site_rules
-  leads_write moment site fit brought = subst (λ (o : Option Ring). Leads site (make (file_for_reset site o ++ moves)) AreEnding) (sym brought.has.is)
+  leads_write moment site fit brought = subst (λ (o : Option Ring). Restarts site (make (file_for_reset site o ++ moves)) AreEnding) (sym brought.has.is)
       (by (is_open_and_empty site brought.has.ring) refl)
     where
       moves : List Move
@@ -228,42 +293,51 @@ module _ (restore : Active) where
       )
 
       by_ring : HasRecords site.starts site.history (length site.starts) → (b : Bool) → is_ring_full site.starts brought.has.ring ≡ b
-          → Leads site (make (((if b then drop_oldest ∷ [] else []) ++ next_file ∷ []) ++ append_reset restore.number restore.to (max moment (last_time site.history)) ∷ [])) AreEnding
+          → Restarts site (make (((if b then drop_oldest ∷ [] else []) ++ next_file ∷ []) ++ append_reset restore.number restore.to (max moment (last_time site.history)) ∷ [])) AreEnding
       by_ring has_records false is = record {
-        can = can_next_reset site brought.has brought.is brought.before brought.few brought.all (max moment (last_time site.history)) le has_records
+        can = can_next_reset site brought.has brought.is brought.before brought.few brought.come (max moment (last_time site.history)) le has_records
             (omega (arith, not_at_most (brought.has.ring.oldest + 7) (length site.starts) is));
-        then_holds = λ none. next_ending site brought.has brought.is brought.before brought.few brought.all (max moment (last_time site.history)) le has_records;
+        then_holds = λ none. next_ending site brought.has brought.is brought.before brought.few brought.come (max moment (last_time site.history)) le has_records;
       }
-      by_ring has_records true is = dropped has_records (omega (arith, at_most (brought.has.ring.oldest + 7) (length site.starts) is))
+      by_ring has_records true is = dropped has_records (omega (arith, at_most (brought.has.ring.oldest + 7) (length site.starts) is)) (at_most (brought.has.ring.oldest + 7) (length site.starts) is)
         where
           dropped : HasRecords site.starts site.history (length site.starts) → brought.has.ring.oldest < length site.starts
-              → Leads site (make (drop_oldest ∷ next_file ∷ append_reset restore.number restore.to (max moment (last_time site.history)) ∷ [])) AreEnding
-          dropped has_records many =
+              → brought.has.ring.oldest + 7 ≤ length site.starts
+              → Restarts site (make (drop_oldest ∷ next_file ∷ append_reset restore.number restore.to (max moment (last_time site.history)) ∷ [])) AreEnding
+          dropped has_records many full =
               let other : HasRing (site_after drop_oldest site) = record { ring = record brought.has.ring { oldest = suc brought.has.ring.oldest }; is = ap (option_map less_oldest) brought.has.is } in
               record {
                 can = (
                   record {
-                    has = brought.has;
-                    not_last = many;
-                    saved = saved.backed brought.has.ring.oldest (omega arith) holds.held (fit.history.rising brought.has.ring.oldest holds.oldest many);
-                    not_open = λ none. absurd (none_some (sym none ∙ brought.is));
-                    not_needed = λ none. absurd (none_some (sym none ∙ brought.is));
+                    under = with_prepared true restore;
+                    is = brought.is;
+                    next = (
+                      record { prepared = refl; before = brought.before; come = brought.come },
+                      λ has. subst (λ (r : Ring). r.oldest + 8 ≤ suc (length site.starts)) (some_same (sym brought.has.is ∙ has.is)) (omega (arith, full)),
+                    );
+                    can = record {
+                      has = brought.has;
+                      not_last = many;
+                      saved = saved.backed brought.has.ring.oldest (omega arith) holds.held (fit.history.rising brought.has.ring.oldest holds.oldest many);
+                      not_open = λ none. absurd (none_some (sym none ∙ brought.is));
+                      not_needed = λ none. absurd (none_some (sym none ∙ brought.is));
+                    };
                   },
-                  can_next_reset (site_after drop_oldest site) other brought.is brought.before brought.few brought.all (max moment (last_time site.history)) le has_records
+                  can_next_reset (site_after drop_oldest site) other brought.is brought.before brought.few brought.come (max moment (last_time site.history)) le has_records
                       (omega (arith, holds.few)),
                 );
-                then_holds = λ none. next_ending (site_after drop_oldest site) other brought.is brought.before brought.few brought.all (max moment (last_time site.history)) le has_records;
+                then_holds = λ none. next_ending (site_after drop_oldest site) other brought.is brought.before brought.few brought.come (max moment (last_time site.history)) le has_records;
               }
 
       by : (b : Bool) → is_open_and_empty site brought.has.ring ≡ b
-          → Leads site (make ((if b then [] else ((if is_ring_full site.starts brought.has.ring then drop_oldest ∷ [] else []) ++ next_file ∷ []))
+          → Restarts site (make ((if b then [] else ((if is_ring_full site.starts brought.has.ring then drop_oldest ∷ [] else []) ++ next_file ∷ []))
           ++ append_reset restore.number restore.to (max moment (last_time site.history)) ∷ [])) AreEnding
       by true is = here is
         where
-          here : is_open_and_empty site brought.has.ring ≡ true → Leads site (make (append_reset restore.number restore.to (max moment (last_time site.history)) ∷ [])) AreEnding
+          here : is_open_and_empty site brought.has.ring ≡ true → Restarts site (make (append_reset restore.number restore.to (max moment (last_time site.history)) ∷ [])) AreEnding
           here is = record {
-            can = (can_reset site brought.has brought.is brought.before brought.few brought.all (both_true brought.has.ring.is_open _ is).0 (empty is) (max moment (last_time site.history)) le, tt);
-            then_holds = λ none. ending site brought.has brought.is brought.all (max moment (last_time site.history));
+            can = resets site brought.has brought.is brought.before brought.few brought.come (both_true brought.has.ring.is_open _ is).0 (empty is) (max moment (last_time site.history)) le;
+            then_holds = λ none. ending site brought.has brought.is (all_come site brought.come) (max moment (last_time site.history));
           }
       by false is = by_ring (filled is) (is_ring_full site.starts brought.has.ring) refl
 
@@ -271,7 +345,7 @@ module _ (restore : Active) where
 
   lane_finishes : (site : Site) (space : ℕ) (lane : LaneState) → AreEnding site → IsEnding restore (length site.history) lane → CanLane site space lane (stands (length site.history) 0)
   lane_finishes site space lane ending_now (inl is) = stays (sym is)
-  lane_finishes site space (replays number chain upto part) ending_now (inr is) = finishes (record {
+  lane_finishes site space (replays number chain upto part) ending_now (inr is) = may_finish (record {
     under = with_prepared true restore;
     is = ending_now.is;
     has = ending_now.has;
@@ -311,23 +385,41 @@ module _ (restore : Active) where
       let parts = both_true (stands_at end lane) (all_lanes (λ n l. stands_at end l) (suc space) lanes) is in
       (one_there end lane parts.0, all_there end (suc space) lanes parts.1)
 
+  not_standing : (end : ℕ) (lane : LaneState) → stands_at end lane ≡ false → stands end 0 ≡ lane → ⊥
+  not_standing end lane isnt same = true≢false (sym there ∙ isnt)
+    where
+      there : stands_at end lane ≡ true
+      there = subst (λ (l : LaneState). stands_at end l ≡ true) same (number_there end)
+
   -- all lanes stand at the Reset
   record AreThere (site : Site) : Type 0 where
     is : site.active ≡ Some (with_prepared true restore)
     ends : EndsInReset site.history (with_prepared true restore)
     all : AllByRecursion (λ lane. lane ≡ stands (length site.history) 0) site.lanes
 
-  leads_lanes_end : LeadsFrom AreEnding
+  leads_lanes_end : RestartsFrom AreEnding
       (λ site. make (if all_lanes (λ n lane. stands_at (length site.history) lane) 0 site.lanes then []
       else move_lanes (each_lane (λ n lane. stands (length site.history) 0) 0 site.lanes) ∷ [])) AreThere
   unfolding site_rules
   leads_lanes_end site fit ending_now = by (all_lanes (λ n lane. stands_at (length site.history) lane) 0 site.lanes) refl
     where
       by : (b : Bool) → all_lanes (λ n lane. stands_at (length site.history) lane) 0 site.lanes ≡ b
-          → Leads site (make (if b then [] else move_lanes (each_lane (λ n lane. stands (length site.history) 0) 0 site.lanes) ∷ [])) AreThere
+          → Restarts site (make (if b then [] else move_lanes (each_lane (λ n lane. stands (length site.history) 0) 0 site.lanes) ∷ [])) AreThere
       by true is = record { can = tt; then_holds = λ none. record { is = ending_now.is; ends = ending_now.ends; all = all_there (length site.history) 0 site.lanes is } }
       by false is = record {
-        can = (lanes_finish site 0 site.lanes ending_now ending_now.all, tt);
+        can = (
+          record {
+            under = with_prepared true restore;
+            is = ending_now.is;
+            next = (
+              some_lane_moves (λ n lane. stands_at (length site.history) lane) (λ n lane. stands (length site.history) 0)
+                  (λ n lane. not_standing (length site.history) lane) 0 site.lanes is,
+              finishes ending_now.ends (each_goal (λ n lane g. g ≡ stands (length site.history) 0) (λ n lane. stands (length site.history) 0) (λ n lane. refl) 0 site.lanes),
+            );
+            can = lanes_finish site 0 site.lanes ending_now ending_now.all;
+          },
+          tt,
+        );
         then_holds = λ none. record { is = ending_now.is; ends = ending_now.ends; all = lanes_there (length site.history) 0 site.lanes };
       }
 
@@ -335,25 +427,33 @@ module _ (restore : Active) where
   at_end end [] all = tt
   at_end end (lane ∷ lanes) all = (subst (IsAtEnd end) (sym all.0) (refl, refl), at_end end lanes all.1)
 
-  leads_end : LeadsFrom AreThere (λ site. make (end_restore ∷ [])) HasEnded
+  leads_end : RestartsFrom AreThere (λ site. make (end_restore ∷ [])) HasEnded
   unfolding site_rules
   leads_end site fit there = record {
-    can = (record { under = with_prepared true restore; is = there.is; ends = there.ends; lanes = at_end (length site.history) site.lanes there.all }, tt);
+    can = (
+      record {
+        under = with_prepared true restore;
+        is = there.is;
+        next = there.all;
+        can = record { under = with_prepared true restore; is = there.is; ends = there.ends; lanes = at_end (length site.history) site.lanes there.all };
+      },
+      tt,
+    );
     then_holds = λ none. record { none = refl; ends = record { time = there.ends.time; is = there.ends.is }; all = there.all };
   }
 
-  pub leads_finish : LeadsFrom AreEnding finish HasEnded
+  pub leads_finish : RestartsFrom AreEnding finish HasEnded
   leads_finish site fit ending_now =
-      leads_then AreEnding AreThere HasEnded
+      restarts_then AreEnding AreThere HasEnded
       (λ s. make (if all_lanes (λ n lane. stands_at (length s.history) lane) 0 s.lanes then []
       else move_lanes (each_lane (λ n lane. stands (length s.history) 0) 0 s.lanes) ∷ []))
       (in_turn ((λ s. make (end_restore ∷ [])) ∷ [])) leads_lanes_end
-      (leads_then AreThere HasEnded HasEnded (λ s. make (end_restore ∷ [])) (in_turn []) leads_end (leads_none HasEnded)) site fit ending_now
+      (restarts_then AreThere HasEnded HasEnded (λ s. make (end_restore ∷ [])) (in_turn []) leads_end (restarts_none HasEnded)) site fit ending_now
 
   -- A restore whose lanes are ready comes to its end.
-  pub leads_go_on : (moment : ℕ) → LeadsFrom (IsReady restore true) (go_on restore.number restore.to moment) HasEnded
+  pub leads_go_on : (moment : ℕ) → RestartsFrom (IsReady restore true) (go_on restore.number restore.to moment) HasEnded
   leads_go_on moment =
-      leads_then (IsReady restore true) AreBrought HasEnded (restore_lanes restore.number restore.to) (in_turn (write_reset restore.number restore.to moment ∷ finish ∷ []))
+      restarts_then (IsReady restore true) AreBrought HasEnded (restore_lanes restore.number restore.to) (in_turn (write_reset restore.number restore.to moment ∷ finish ∷ []))
       leads_restore_lanes
-      (leads_then AreBrought AreEnding HasEnded (write_reset restore.number restore.to moment) (in_turn (finish ∷ [])) (leads_write moment)
-      (leads_then AreEnding HasEnded HasEnded finish (in_turn []) leads_finish (leads_none HasEnded)))
+      (restarts_then AreBrought AreEnding HasEnded (write_reset restore.number restore.to moment) (in_turn (finish ∷ [])) (leads_write moment)
+      (restarts_then AreEnding HasEnded HasEnded finish (in_turn []) leads_finish (restarts_none HasEnded)))

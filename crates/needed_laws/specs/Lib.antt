@@ -1,0 +1,4 @@
+pub mod Needed
+pub mod BegunLaws
+pub mod SufficesLaws
+pub mod JoinedLaws

@@ -1,0 +1,6 @@
+pub mod Restarting
+pub mod PreparingLaws
+pub mod RestoringLaws
+pub mod RestartLaws
+pub mod BeginningLaws
+pub mod Passing
