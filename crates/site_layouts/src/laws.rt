@@ -1,0 +1,139 @@
+//! The laws, each as the contract of a function.
+ghost use Rattle.std.specs.Prelude.{◌≡◌, ◌+◌, ◌<◌, ◌≤◌, ℕ, List, Option, true, false, length, slice_get};
+ghost use Rattle.std.specs.List.{AllByRecursion};
+ghost use Rattle.block_chain.specs.Blocks.{AreApart};
+ghost use Rattle.catalogue_journal.specs.Transactions.{Addition, ended, slots_wanted};
+ghost use Rattle.catalogue_replay.specs.Answers.{HasNoHead, IsCatalogue};
+ghost use Rattle.gated_slots.specs.Slots.{used};
+ghost use Rattle.backup_lines.specs.Lines.{Line};
+ghost use Rattle.log_history.specs.History.{History};
+ghost use Rattle.log_history.specs.Live.{live};
+ghost use Rattle.object_volume.specs.Answers.{Judges};
+ghost use Rattle.object_volume.specs.Objects.{Spares};
+ghost use Rattle.object_volume.specs.declared.faults.Soundness.TheVariants.{Sound};
+ghost use Rattle.site_headers.specs.Areas.{slot_count};
+ghost use Rattle.site_headers.specs.Heads.{Head};
+ghost use Rattle.site_headers.specs.Headers.{HasHeader};
+ghost use Rattle.site_model.specs.declared.disk_name.DiskName.{DiskName};
+ghost use Rattle.site_model.specs.declared.disk_name.DiskName.TheVariants.{Chunk as ChunkOf};
+ghost use Rattle.site_worlds.specs.Allowed.{CanMove, FollowFrom};
+ghost use Rattle.site_worlds.specs.Fitness.{AscendWithin, IsFit, IsFitSite};
+ghost use Rattle.site_worlds.specs.Lanes.{pages_of_space};
+ghost use Rattle.site_worlds.specs.Moves.{Move, WorldMove, move_lanes, site_after, store_after, world_after};
+ghost use Rattle.site_worlds.specs.Objects.{IsKept, blocks_on};
+ghost use Rattle.site_worlds.specs.Worlds.{Active, Kept, LaneState, Ring, Site, Store, World, lost, new_site, stands};
+ghost use Rattle.space_pages.specs.Pages.{pages_of};
+ghost use Rattle.world_laws.specs.NewLaws.{CanWorldMove};
+ghost use Rattle.site_layouts.specs.ApartLaws.{Awaits};
+ghost use Rattle.site_layouts.specs.Chunks.{FitsMark, HoldsLane, HoldsPages, chunk_tail, mark_of};
+ghost use Rattle.site_layouts.specs.Disks.{moves_disk, moves_world_disk};
+ghost use Rattle.site_layouts.specs.Formatted.{IsFormatted};
+ghost use Rattle.site_layouts.specs.Layouts.{ShowsSite, ShowsWorld};
+ghost use Rattle.site_layouts.specs.NewLaws.{AwaitsWorld};
+ghost use Rattle.site_layouts.specs.PhaseLaws.{site_at};
+ghost use Rattle.site_layouts.specs.Rings.{ring_record};
+ghost use Rattle.site_layouts.specs.Stores.{Held, HoldsCatalogue, HoldsSpare, HoldsVolume, IsSound, catalogue_area, contents_of, read_of};
+ghost use Rattle.site_layouts.specs.TellsLaws.{HasMark};
+ghost use Rattle.site_layouts.specs.VolumeLaws.{IsSentTo};
+ghost use Rattle.site_layouts.specs.VoteLaws.{AreAdded};
+
+/// What any disk but those that move shows of a fit site, it shows behind a move that may be made; for a transaction of the store, where
+/// a volume already reads the objects that it adds. While lanes go on the other disks show the site wherever the lanes are.
+pub fn a_move_leaves_the_others_apart()
+    ensures behind { (move : Move) (site : Site) (held : Held) (name : DiskName) (bytes : List ℕ) → CanMove move site → IsFitSite site → Awaits move name bytes
+        → moves_disk move name ≡ false → ShowsSite name site held bytes → ShowsSite name (site_after move site) held bytes }
+    ensures amid { (mids : List LaneState) (site : Site) (held : Held) (name : DiskName) (bytes : List ℕ) → moves_disk (move_lanes mids) name ≡ false
+        → ShowsSite name site held bytes → ShowsSite name (record site { lanes = mids }) held bytes }
+{}
+
+/// The same of worlds, from a site that isn't formatted yet on: before its catalogue's header is opened, the other disks are formatted.
+pub fn a_move_of_worlds_leaves_the_others_apart()
+    ensures { (move : WorldMove) (world : World) (held : Held) (name : DiskName) (bytes : List ℕ) → held.area ≡ 0 → CanWorldMove move world → IsFit world
+        → AwaitsWorld move name bytes → moves_world_disk move name ≡ false → ShowsWorld name world held bytes
+        → ShowsWorld name (world_after move world) held bytes }
+{}
+
+/// A volume that already reads the objects that a transaction adds shows the store behind it.
+pub fn a_volume_with_new_objects_shows_them()
+    ensures { (head : Head) (store : Store) (added : List Kept) (deleted : List ℕ) (volume : ℕ) (bytes : List ℕ)
+        → AllByRecursion (λ copy. copy ≤ store.last) store.damaged → FollowFrom store.last added → AllByRecursion (IsSentTo volume bytes) added
+        → HoldsVolume head store volume bytes → HoldsVolume head (store_after added deleted store) volume bytes }
+{}
+
+/// A volume still shows what it did where only blocks that no live object has were written, and the others are spared at least as far as
+/// some bytes go that show it.
+pub fn free_blocks_show_nothing()
+    ensures { (head : Head) (store : Store) (volume limit : ℕ) (blocks base old new : List ℕ) → AllByRecursion IsKept store.kept
+        → AreApart blocks (blocks_on volume store.kept) → HoldsVolume head store volume base → length base ≤ limit → Spares blocks limit old new
+        → HoldsVolume head store volume old → HoldsVolume head store volume new }
+{}
+
+/// An object that stands as it was sent is found sound.
+pub fn a_sound_object_is_found_sound()
+    ensures { (kept : Kept) (bytes : List ℕ) → IsKept kept → IsSound kept bytes → Judges (read_of kept bytes) kept.object.size kept.object.digest Sound }
+{}
+
+/// The disks of a new site, as they are formatted, show it.
+pub fn a_formatted_disk_shows_a_new_site()
+    ensures { (head : Head) (held : Held) (name : DiskName) (bytes : List ℕ) → held.area ≡ 0 → IsFormatted name head bytes
+        → ShowsSite name (new_site head) held bytes }
+{}
+
+/// A catalogue shows a formatted site or one that isn't, and of a formatted one the head, what the catalogue has, and how many of its slots
+/// are in use.
+pub fn a_catalogue_tells_what_it_shows()
+    ensures either { (head : Head) (store : Store) (held : Held) (bytes : List ℕ) → HasNoHead bytes → HoldsCatalogue head store held bytes → ⊥ }
+    ensures head { (first second : Head) (store other : Store) (held with : Held) (bytes : List ℕ) → HoldsCatalogue first store held bytes
+        → HoldsCatalogue second other with bytes → first ≡ second }
+    ensures contents { (first second : Head) (store other : Store) (held with : Held) (bytes : List ℕ) → HoldsCatalogue first store held bytes
+        → HoldsCatalogue second other with bytes → (contents_of store ≡ contents_of other) × (store.used ≡ other.used) }
+{}
+
+/// A chunk shows its own lane, wherever the others are.
+pub fn a_chunk_shows_its_own_lane()
+    ensures shows { (site : Site) (held : Held) (places : DiskName → LaneState) (n : ℕ) (bytes : List ℕ) → n < length site.lanes
+        → HoldsLane site.head.site (pages_of_space site.head.spaces n) site.history site.lines site.number site.active n (places (ChunkOf n)) bytes
+        → ShowsSite (ChunkOf n) (site_at site places) held bytes }
+    ensures only { (site : Site) (held : Held) (places : DiskName → LaneState) (n : ℕ) (bytes : List ℕ) → n < length site.lanes
+        → ShowsSite (ChunkOf n) (site_at site places) held bytes
+        → HoldsLane site.head.site (pages_of_space site.head.spaces n) site.history site.lines site.number site.active n (places (ChunkOf n)) bytes }
+    ensures same { (site : Site) (held : Held) (mids others : List LaneState) (n : ℕ) (bytes : List ℕ) → slice_get mids n ≡ slice_get others n
+        → ShowsSite (ChunkOf n) (record site { lanes = mids }) held bytes → ShowsSite (ChunkOf n) (record site { lanes = others }) held bytes }
+{}
+
+/// A chunk whose lane isn't lost has its header. One at a position that is live at the log's end, with nothing more laid, has the pages of
+/// that position, once what is kept for its place is put back.
+pub fn a_lane_has_its_header_and_pages()
+    ensures header { (site count : ℕ) (history : History) (lines : List Line) (number : ℕ) (active : Option Active) (space : ℕ) (lane : LaneState) (bytes : List ℕ)
+        → (lane ≡ lost → ⊥) → HoldsLane site count history lines number active space lane bytes → HasHeader (chunk_tail site space count) bytes }
+    ensures pages { (site count : ℕ) (history : History) (lines : List Line) (number : ℕ) (active : Option Active) (space upto : ℕ) (bytes : List ℕ)
+        → live history (length history) upto ≡ true → HoldsLane site count history lines number active space (stands upto 0) bytes
+        → HoldsPages site space count (stands upto 0) upto 0 (pages_of history upto space 0 count) bytes }
+{}
+
+/// Two disks are a catalogue exactly where they show a store, but for the count of slots in use. Behind a transaction of the catalogue, with
+/// as many slots more in use, they show the store behind the vote that adds its objects and deletes by the same copy ids.
+pub fn a_catalogue_shows_its_store()
+    ensures shows { (head : Head) (store : Store) (held : Held) (bytes spare : List ℕ) → held.area ≡ 0 → used catalogue_area bytes ≡ store.used
+        → IsCatalogue slot_count head (contents_of store) bytes spare → HoldsCatalogue head store held bytes × HoldsSpare head spare }
+    ensures stands { (head : Head) (store : Store) (held : Held) (bytes spare : List ℕ) → HoldsCatalogue head store held bytes → HoldsSpare head spare
+        → IsCatalogue slot_count head (contents_of store) bytes spare }
+    ensures behind { (head : Head) (store : Store) (held : Held) (added : List Kept) (deleted : List ℕ) (additions : List Addition) (bytes spare : List ℕ) → held.area ≡ 0
+        → AscendWithin 0 store.last store.kept → AreAdded store.last added additions → used catalogue_area bytes ≡ store.used + slots_wanted deleted additions
+        → IsCatalogue slot_count head (ended deleted additions (contents_of store)) bytes spare
+        → HoldsCatalogue head (store_after added deleted store) held bytes × HoldsSpare head spare }
+{}
+
+/// The record of a mark has the 255 bytes of its slot.
+pub fn a_mark_fills_its_slot()
+    ensures log { (starts : List ℕ) (history : History) (ring : Ring) → length (ring_record starts history ring) ≡ 255 }
+    ensures chunk { (lane : LaneState) → FitsMark lane → length (mark_of lane) ≡ 255 }
+{}
+
+/// Two states of a lane with the same mark are one, so a chunk shows one state that has a mark.
+pub fn a_mark_tells_its_state()
+    ensures state { (lane other : LaneState) → FitsMark lane → FitsMark other → mark_of lane ≡ mark_of other → lane ≡ other }
+    ensures chunk { (site count : ℕ) (history : History) (lines : List Line) (number : ℕ) (active : Option Active) (space : ℕ) (lane other : LaneState) (bytes : List ℕ)
+        → HasMark lane → HasMark other → HoldsLane site count history lines number active space lane bytes
+        → HoldsLane site count history lines number active space other bytes → lane ≡ other }
+{}
