@@ -1,0 +1,9 @@
+pub mod Files
+pub mod Ring
+pub mod Views
+pub mod Held
+pub mod Rooms
+pub mod FilesLaws
+pub mod RingLaws
+pub mod Answers
+pub mod RoomLaws

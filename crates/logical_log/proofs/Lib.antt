@@ -1,0 +1,5 @@
+pub mod StandsLemmas
+pub mod PassLemmas
+pub mod BatchLemmas
+pub mod ResetLemmas
+pub mod FormatLemmas

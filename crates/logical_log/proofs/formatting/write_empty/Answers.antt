@@ -1,0 +1,62 @@
+use Rattle.std.proofs.Common.{◌≡◌, ℕ, List, Some, arith, ap, subst, ◌∙◌, inr}
+use Rattle.site_disk.specs.Bytes.{Torn}
+use Rattle.site_disk.specs.CallsLaws.{on_ok, both_on_ok}
+use Rattle.gated_slots.specs.Slots.{Area}
+use Rattle.gated_slots.specs.SlotsLaws.{used_by_gates}
+use Rattle.twin_mark.specs.Marks.{record_at}
+use Rattle.log_mark.specs.Layout.{spelling as mark_spelling}
+use Rattle.logical_log.proofs.FormatLemmas.{closed_stored, closed_torn, closed_stops, stands_closed}
+use Rattle.logical_log.proofs.formatting.write_empty.Goals as goal
+
+pub returns-clause-stored : goal.returns-clause-stored
+returns-clause-stored g c tells =
+    let new = g.D.Disk.bytes c.format.new.disk in
+    on_ok c.format.result
+    (λ stands. subst (λ (k : ℕ). record_at k new ≡ Some (mark_spelling c.args.held.now.mark)) c.requires.base (stands ∙ ap (λ (l : List ℕ). Some l) c.encode_into.ensures))
+    (c.format.ensures.new_record tells)
+
+pub returns-clause-knows : goal.returns-clause-knows
+returns-clause-knows g c tells = on_ok c.format.result (λ agrees. agrees.now) (c.format.ensures.agrees tells)
+
+pub returns-clause-closed : goal.returns-clause-closed
+returns-clause-closed g c tells =
+    let e = c.args.era.now.number in
+    let mid = g.D.Disk.bytes c.close_all.new.disk in
+    let disk = c.format.new.disk in
+    let new = g.D.Disk.bytes disk in
+    let last = (g.D.Disk.ledger disk).last in
+    let long = c.in_ok-close_all.ensures.long tells in
+    both_on_ok c.format.result
+    (λ stores only. stands_closed last e new (g.D.Disk.image disk)
+    (closed_stored c.args.mark.now.base c.encode_into.new.bytes mid new (omega (arith, c.requires.base)) (c.in_ok-close_all.ensures.closed tells) stores)
+    only c.format.ensures.ledger.no_later (g.met.D.Disk.now_counts disk))
+    (c.format.ensures.stored tells (omega (arith, long, c.requires.base, c.requires.gates))) (c.format.ensures.durable tells)
+
+pub returns-clause-unused : goal.returns-clause-unused
+returns-clause-unused g c tells =
+    let mid = g.D.Disk.bytes c.close_all.new.disk in
+    let new = g.D.Disk.bytes c.format.new.disk in
+    let area : Area = c.args.slots.now.area in
+    let long = c.in_ok-close_all.ensures.long tells in
+    on_ok c.format.result
+    (λ stores. used_by_gates area mid new (stores.elsewhere area.gates area.capacity (inr (omega (arith, c.requires.base, c.requires.gates)))) ∙ c.in_ok-close_all.ensures.unused tells)
+    (c.format.ensures.stored tells (omega (arith, long, c.requires.base, c.requires.gates)))
+
+pub returns-clause-long : goal.returns-clause-long
+returns-clause-long g c tells =
+    let long = c.in_ok-close_all.ensures.long tells in
+    on_ok c.format.result (λ stores. omega (arith, long, stores.no_shorter)) (c.format.ensures.stored tells (omega (arith, long, c.requires.base, c.requires.gates)))
+
+pub returns-clause-crash : goal.returns-clause-crash
+returns-clause-crash g c tells =
+    let e = c.args.era.now.number in
+    let disk = c.args.disk.now in
+    let mid = c.close_all.new.disk in
+    let base : ℕ = c.args.mark.now.base in
+    let long = c.in_ok-close_all.ensures.long tells in
+    let shut = c.in_ok-close_all.ensures.closed tells in
+    closed_stops e (g.D.Disk.image disk) (Torn base 1024) (g.D.Disk.bytes disk) (g.D.Disk.bytes mid) (g.D.Disk.image mid) (g.D.Disk.image c.format.new.disk)
+    (c.close_all.ensures.crash tells) (c.in_ok-close_all.ensures.durable tells)
+    (λ f lt. g.met.D.Disk.reads_as disk f tells (omega (arith, lt, c.requires.era.not_past)))
+    (c.format.ensures.crash tells (omega (arith, long, c.requires.base, c.requires.gates)))
+    (λ d torn. closed_torn base 1024 (g.D.Disk.bytes mid) d (omega (arith, c.requires.base)) shut torn)
