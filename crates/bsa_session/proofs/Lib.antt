@@ -1,0 +1,5 @@
+pub mod StateLemmas
+pub mod HoldingLemmas
+pub mod StagingLemmas
+pub mod QueryingLemmas
+pub mod SendingLemmas

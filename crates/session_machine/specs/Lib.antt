@@ -1,0 +1,5 @@
+pub mod States
+pub mod Records
+pub mod Answers
+pub mod Calls
+pub mod Conditions
