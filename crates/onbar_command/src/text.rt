@@ -3,9 +3,10 @@ ghost use Rattle.std.specs.Prelude.{◌≡◌, ◌++◌, IfOk, OnOk, string_byte
 ghost use Rattle.site_headers.specs.Views.{space_of};
 ghost use Rattle.site_model.specs.Texts.{counts_text, space_text, status_text, why_text, disk_text, full_text};
 
+use log_files::LogFull;
 use onbar_grammar::Why;
 use site_headers::SpaceHead;
-use site_model::{DiskName, LogFull, Status};
+use site_model::{DiskName, Status};
 use std::alloc::{AllocError, Global};
 
 /// Of records that stand: how many, how many of them Commits, and the end of the log.

@@ -1,5 +1,5 @@
 -- Extending the log by a script, between its calls.
-use Rattle.std.proofs.Common.{◌≡◌, ◌∙◌, None, Some, Option, inl, inr, ⊎_elim, ℕ, ◌+◌, ◌<◌, ◌≤◌, List, [], ◌∷◌, ◌++◌, length, refl, sym, ap, subst, arith}
+use Rattle.std.proofs.Common.{◌≡◌, ◌∙◌, None, Some, Option, inl, ⊎_elim, ℕ, ◌+◌, ◌<◌, ◌≤◌, List, [], ◌++◌, length, refl, sym, ap, subst, arith}
 use Rattle.std.specs.Prelude.{Result, Ok, Err, OnOk}
 use Rattle.std.proofs.lemmas.List.{append-nil}
 use Rattle.log_history.specs.History.{History}
@@ -7,11 +7,8 @@ use Rattle.log_history.specs.Transactions.{table_of, last_time}
 use Rattle.log_record.specs.Entry.{history_of}
 use Rattle.site_disk.specs.declared.disk.Disk.{Ghosts}
 use Rattle.onbar_grammar.specs.Script.{Raw, raw_lines}
-use Rattle.site_model.specs.declared.status.Status.{Status}
 use Rattle.site_model.specs.declared.status.Status.TheVariants.{Ok as Done}
 use Rattle.site_model.specs.Commands.{HasRead, IsLeft}
-use Rattle.site_model.specs.Layouts.{HoldsLog}
-use Rattle.site_model.specs.LogLaws.{extended}
 use Rattle.site_model.specs.Openings.{first_out_of_order}
 use Rattle.site_model.specs.Runs.{Ending, first_state}
 use Rattle.site_model.specs.Worlds.{Site}
@@ -28,10 +25,9 @@ use Rattle.script_runs.specs.declared.transactions.Stop.{Stop}
 use Rattle.script_runs.specs.declared.transactions.Stop.TheVariants.{End, Fault, Full, ReadFault, DiskFault, OutOfMemory}
 use Rattle.script_runs.specs.declared.transactions.Work.{Work}
 use Rattle.script_runs.specs.Extending.{GoesOver, IsExtended, ExtendsTo, report_of}
-use Rattle.script_runs.specs.Images.{AllComeFrom}
 use Rattle.script_runs.specs.ScriptSteps.{halt_at, stop_status}
 use Rattle.script_runs.specs.Scripts.{place_at}
-use Rattle.script_runs.specs.Stages.{EndsWith, Halt, Holds, added_by, batch_rules, course_of, log_images, log_shows, log_stage, use_of}
+use Rattle.script_runs.specs.Stages.{EndsWith, Halt, Holds, batch_rules, course_of, log_images, log_shows, log_stage, use_of}
 use Rattle.script_runs.proofs.BatchLemmas.{come_further}
 
 -- the log was opened, or that failed: it is as it was

@@ -4,7 +4,7 @@ use Rattle.log_history.specs.History.{History}
 use Rattle.site_disk.specs.declared.disk.Disk.{Ghosts}
 use Rattle.site_disk.specs.Images.{Leaves}
 use Rattle.site_model.specs.declared.disk_name.DiskName.TheVariants.{Log}
-use Rattle.site_model.specs.declared.status.LogFull.TheVariants.{Positions}
+use Rattle.log_files.specs.declared.room.LogFull.TheVariants.{Positions}
 use Rattle.site_model.specs.declared.status.Status.TheVariants.{LogFull, DiskFault as DeviceFault}
 use Rattle.site_model.specs.LogLaws.{extended}
 use Rattle.onbar_grammar.specs.Script.{Raw}

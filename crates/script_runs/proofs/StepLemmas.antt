@@ -6,7 +6,7 @@ use Rattle.log_record.specs.Entry.{history_of}
 use Rattle.onbar_grammar.specs.Script.{Raw, Space}
 use Rattle.site_model.specs.declared.status.Status.{Status}
 use Rattle.site_model.specs.declared.status.Status.TheVariants.{Ok as Done, LogFull}
-use Rattle.site_model.specs.declared.status.LogFull.TheVariants.{Positions}
+use Rattle.log_files.specs.declared.room.LogFull.TheVariants.{Positions}
 use Rattle.site_model.specs.Worlds.{Site}
 use Rattle.site_model.specs.Runs.{ScriptState, Ending, ends, appends, behind_batch, go_on, after_batch, appended, is_full, ended, ends_with}
 use Rattle.script_runs.specs.declared.script.Progress.{Progress}

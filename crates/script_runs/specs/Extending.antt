@@ -4,7 +4,7 @@ use Rattle.log_history.specs.History.{History}
 use Rattle.site_model.specs.declared.disk_name.DiskName.TheVariants.{Log}
 use Rattle.site_model.specs.declared.status.Status.{Status}
 use Rattle.site_model.specs.declared.status.Status.TheVariants.{Ok as Done, OutOfMemory as NoMemory, ReadFault as SourceFault, DiskFault as DeviceFault, ScriptFault, LogFull}
-use Rattle.site_model.specs.declared.status.LogFull.TheVariants.{Positions}
+use Rattle.log_files.specs.declared.room.LogFull.TheVariants.{Positions}
 use Rattle.site_model.specs.Commands.{CutsShort, HasRead, IsOfWork}
 use Rattle.site_model.specs.Layouts.{HoldsLog}
 use Rattle.site_model.specs.LogLaws.{extended}

@@ -5,7 +5,7 @@ use Rattle.site_disk.specs.declared.disk.Disk.{Ghosts}
 use Rattle.site_model.specs.declared.disk_name.DiskName.TheVariants.{Log}
 use Rattle.site_model.specs.declared.status.Status.{Status}
 use Rattle.site_model.specs.declared.status.Status.TheVariants.{Ok as Done, OutOfMemory as NoMemory, ReadFault as SourceFault, DiskFault as DeviceFault, ScriptFault, LogFull}
-use Rattle.site_model.specs.declared.status.LogFull.TheVariants.{Positions}
+use Rattle.log_files.specs.declared.room.LogFull.TheVariants.{Positions}
 use Rattle.site_model.specs.Worlds.{Site}
 use Rattle.script_runs.specs.declared.transactions.Work.{Work}
 use Rattle.script_runs.specs.declared.transactions.Stop.{Stop}

@@ -1,5 +1,5 @@
 -- A run of a script as a stage: its one disk is the log, its worlds are the records that were added, and its moves are batches.
-use Rattle.std.specs.Prelude.{◌≡◌, ◌⊎◌, ℕ, ◌+◌, ◌*◌, ◌<◌, ◌≤◌, List, [], ◌∷◌, ◌++◌, length, drop, count_by, Bool, true, false, Option, None, Some, refl}
+use Rattle.std.specs.Prelude.{◌≡◌, ◌⊎◌, ℕ, ◌+◌, ◌*◌, ◌<◌, ◌≤◌, List, [], ◌∷◌, ◌++◌, length, count_by, Bool, true, false, Option, None, Some, refl}
 use mathlib.Core.Logic.{inl}
 use Rattle.log_history.specs.History.{History}
 use Rattle.gated_slots.specs.Slots.{SlotsView}

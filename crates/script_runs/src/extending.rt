@@ -21,11 +21,12 @@ use crate::collecting::Collected;
 use crate::running::run_script;
 use crate::script::Progress;
 use crate::transactions::{Counts, Stop, Work};
+use log_files::LogFull;
 use log_reading::{LogState, OpenLog, log_status, open_log};
 use script_lines::Lines;
 use site_disk::{Disk, Era, Source};
 use site_headers::SiteHead;
-use site_model::{DiskName, LogFull, Status};
+use site_model::{DiskName, Status};
 use std::alloc::Global;
 
 /// How far a script went: its records that stand, the end of the log, and how the run ended.

@@ -8,7 +8,7 @@ use Rattle.site_model.specs.declared.disk_name.DiskName.{DiskName}
 use Rattle.site_model.specs.declared.disk_name.DiskName.TheVariants.{Cat, Log}
 use Rattle.site_model.specs.declared.status.Status.{Status}
 use Rattle.site_model.specs.declared.status.Status.TheVariants.{Ok as Done, OutOfMemory, ReadFault, WriteFault, DiskFault, ScriptFault, LogFull}
-use Rattle.site_model.specs.declared.status.LogFull.TheVariants.{Positions}
+use Rattle.log_files.specs.declared.room.LogFull.TheVariants.{Positions}
 use Rattle.site_model.specs.Worlds.{World, IsFit}
 use Rattle.site_model.specs.Layouts.{Shows, StandFor, log_area}
 use Rattle.site_model.specs.Runs.{CommandResult, reads_script}

@@ -1,5 +1,4 @@
 pub mod Worlds
-pub mod OrderLaws
 pub mod Layouts
 pub mod Texts
 pub mod Runs

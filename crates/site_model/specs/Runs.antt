@@ -12,7 +12,7 @@ use Rattle.space_pages.specs.Pages.{pages_of}
 use Rattle.page_texts.specs.Texts.{page_text, pages_text}
 use Rattle.site_model.specs.declared.status.Status.{Status}
 use Rattle.site_model.specs.declared.status.Status.TheVariants.{Ok as Done, Usage, ScriptFault, NotFormatted, AlreadyFormatted, NoSuchSpace, NoSuchPage, LogFull}
-use Rattle.site_model.specs.declared.status.LogFull.TheVariants.{Positions}
+use Rattle.log_files.specs.declared.room.LogFull.TheVariants.{Positions}
 use Rattle.site_headers.specs.Heads.{Head}
 use Rattle.site_model.specs.Worlds.{Site, World, unformatted, formatted, new_site, with_history}
 use Rattle.site_model.specs.Texts.{space_text, extension_text, status_text}

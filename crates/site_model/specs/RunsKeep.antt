@@ -1,7 +1,6 @@
 -- A law of runs: what a world has, and keeps with each record that a line may add to its log and where a site is made, every
 -- world of the run of a form has.
 use Rattle.std.specs.Prelude.{◌≡◌, ℕ, suc, ◌+◌, ◌≤◌, ◌==◌, List, [], ◌∷◌, ◌++◌, length, map, Bool, true, false, if◌then◌else◌, max, Option, None, Some, Result, Ok, Err, refl}
-use Rattle.std.specs.List.{AllByRecursion}
 use Rattle.std.proofs.Common.{arith, ap, sym, subst, ◌∙◌, append_assoc, length-append, ⊎_elim}
 use Rattle.std.proofs.lemmas.List.{append-nil}
 use Rattle.log_history.specs.History.{LogEntry, History, begin, write, commit, abort, reset}
@@ -13,10 +12,9 @@ use Rattle.onbar_grammar.specs.Words.{CommandForm, init_form, transactions_form,
 use Rattle.site_headers.specs.Heads.{Head, IsHead}
 use Rattle.site_model.specs.declared.status.Status.{Status}
 use Rattle.site_model.specs.declared.status.Status.TheVariants.{Ok as Done, ScriptFault, LogFull}
-use Rattle.site_model.specs.declared.status.LogFull.TheVariants.{Positions}
+use Rattle.log_files.specs.declared.room.LogFull.TheVariants.{Positions}
 use Rattle.site_model.specs.Commands.{IsAmong, IsPassed}
-use Rattle.site_model.specs.Runs.{Collected, ScriptState, Ending, Outcome, goes_on, ends, Taken, nothing, joined, bad, unless_refused, join, take_meaning, take_text, time_after, appends, behind_batch, logs_behind, log_behind, ended, ends_with, appended, is_full, after_batch, after_taken, after_fault, step_line, go_on, run_lines, first_state, head_at, run_form, show_refusal, shown_text, unless_unshown}
-use Rattle.site_model.specs.Spelled.{AllByRecursion-append}
+use Rattle.site_model.specs.Runs.{Collected, ScriptState, Ending, Outcome, goes_on, ends, Taken, nothing, joined, bad, unless_refused, join, take_meaning, take_text, time_after, appends, logs_behind, log_behind, ended, ends_with, appended, is_full, after_batch, after_taken, after_fault, step_line, go_on, run_lines, first_state, head_at, run_form, show_refusal, shown_text, unless_unshown}
 use Rattle.site_model.specs.Worlds.{Site, World, unformatted, formatted, new_site, with_history}
 
 -- what `-init` says is the head of a site

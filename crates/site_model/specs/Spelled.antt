@@ -1,12 +1,12 @@
 -- Records spelled one after another.
-use Rattle.std.specs.Prelude.{◌≡◌, ℕ, suc, ◌+◌, ◌*◌, ◌≤◌, List, [], ◌∷◌, ◌++◌, length, take, drop, refl}
+use Rattle.std.specs.Prelude.{◌≡◌, ℕ, ◌+◌, ◌*◌, ◌≤◌, List, [], ◌∷◌, ◌++◌, length, take, drop, refl}
 use Rattle.std.specs.List.{AllByRecursion, flat_map}
 use Rattle.std.proofs.Common.{arith, ap, sym, subst, ◌∙◌, length-append, length-drop}
 use Rattle.std.proofs.lemmas.List.{take_at, drop_at, take-append-drop, length-take-le}
 use Rattle.std.proofs.lemmas.List.Concat.{flat_map-append}
 use Rattle.site_disk.specs.Bytes.{extent}
 use Rattle.site_disk.specs.BytesLaws.{extent-extent}
-use Rattle.log_history.specs.History.{LogEntry, History}
+use Rattle.log_history.specs.History.{History}
 use Rattle.log_record.specs.Layout.{IsRecord, spelling}
 use Rattle.log_record.specs.LayoutLaws.{length-spelling}
 
@@ -22,34 +22,6 @@ pub length-spelled : (history : History) → AllByRecursion IsRecord history →
 length-spelled [] all = refl
 length-spelled (entry ∷ others) all =
     omega (arith, length-append (spelling entry) (flat_map spelling others), length-spelling entry all.0, length-spelled others all.1)
-
--- the first of the records that are spelled in some bytes, and what is left
-pub record FirstSpelled (history : History) (bytes : List ℕ) : Type 0 where
-  pub first : LogEntry
-  pub others : History
-  pub splits : history ≡ first ∷ others
-  pub is_record : IsRecord first
-  pub first_bytes : take 128 bytes ≡ spelling first
-  pub rest_bytes : drop 128 bytes ≡ flat_map spelling others
-
-pub first_spelled : (history : History) (bytes : List ℕ) → AllByRecursion IsRecord history → bytes ≡ flat_map spelling history → 128 ≤ length bytes
-    → FirstSpelled history bytes
-first_spelled [] bytes all is long = absurd (let none : length bytes ≡ 0 = ap length is in omega arith)
-first_spelled (entry ∷ others) bytes all is long = record {
-  first = entry;
-  others = others;
-  splits = refl;
-  is_record = all.0;
-  first_bytes = ap (take 128) is ∙ take_at (spelling entry) (flat_map spelling others) 128 (length-spelling entry all.0);
-  rest_bytes = ap (drop 128) is ∙ drop_at (spelling entry) (flat_map spelling others) 128 (length-spelling entry all.0);
-}
-
--- no bytes spell no records
-pub none_spelled : (history : History) (bytes : List ℕ) → AllByRecursion IsRecord history → bytes ≡ flat_map spelling history → length bytes ≡ 0
-    → history ≡ []
-none_spelled [] bytes all is none = refl
-none_spelled (entry ∷ others) bytes all is none =
-    absurd (let whole : length bytes ≡ 128 * suc (length others) = ap length is ∙ length-spelled (entry ∷ others) all in omega arith)
 
 pub AllByRecursion-front : {A : Type 0} (P : A → Type 0) (xs ys : List A) → AllByRecursion P (xs ++ ys) → AllByRecursion P xs
 AllByRecursion-front {A} P [] ys all = tt

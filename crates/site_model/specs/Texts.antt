@@ -7,8 +7,8 @@ use Rattle.onbar_grammar.specs.declared.Why.{Why}
 use Rattle.onbar_grammar.specs.declared.Why.TheVariants.{Words, NoSpace, NoPage, Range, AlreadyOpen, NotOpen, TooManyOpen, TooLong, ScriptTooLong, OutOfMemory as NoMemory}
 use Rattle.site_model.specs.declared.disk_name.DiskName.{DiskName}
 use Rattle.site_model.specs.declared.disk_name.DiskName.TheVariants.{Cat, Spare, Boot, Log, Volume, Chunk}
-use Rattle.site_model.specs.declared.status.LogFull.{LogFull}
-use Rattle.site_model.specs.declared.status.LogFull.TheVariants.{NotBackedUp, Needed, Positions}
+use Rattle.log_files.specs.declared.room.LogFull.{LogFull}
+use Rattle.log_files.specs.declared.room.LogFull.TheVariants.{NotBackedUp, Needed, Positions}
 use Rattle.site_model.specs.declared.status.Status.{Status}
 use Rattle.site_model.specs.declared.status.Status.TheVariants.{Ok as Done, Usage, ScriptFault, NotFormatted, AlreadyFormatted, BadRecord, NoSuchSpace, NoSuchPage, LogLost, LogFull as Full}
 

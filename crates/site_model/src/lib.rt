@@ -5,11 +5,9 @@
 #![tactic(auto)]
 
 mod disk_name;
-mod lacking;
 mod laws;
 mod status;
 
 pub use disk_name::DiskName;
-pub use lacking::{Lacking, LackingList, What};
 pub use laws::{a_run_only_extends, runs_stay_fit, runs_stay_open};
-pub use status::{LogFull, Status, exit_status};
+pub use status::{Status, exit_status};

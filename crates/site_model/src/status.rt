@@ -2,20 +2,11 @@
 ghost use Rattle.std.specs.Prelude.{◌≡◌};
 ghost use Rattle.site_model.specs.Exits.{status_number};
 
-use crate::{DiskName, LackingList};
+use crate::DiskName;
+use backup_lines::LackingList;
 use bsa_descriptor::Text;
+use log_files::LogFull;
 use onbar_grammar::Why;
-
-/// Why the logical log takes no further record.
-#[derive(Clone, Copy, Debug, PartialEq, Eq)]
-pub enum LogFull {
-    /// The oldest log file isn't backed up.
-    NotBackedUp { file: u64 },
-    /// An open transaction needs the oldest log file.
-    Needed { file: u64, txn: u32 },
-    /// No position is left.
-    Positions { end: u64 },
-}
 
 /// How a command ends. The exit status of the program is the variant's place, from 0.
 #[derive(Debug, Drop)]

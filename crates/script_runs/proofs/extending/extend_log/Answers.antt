@@ -1,4 +1,4 @@
-use Rattle.std.proofs.Common.{◌≡◌, ◌⊎◌, ℕ, ◌∙◌, ◌+◌, ◌<◌, ◌++◌, [], List, Some, sym, ap, subst, arith, inl, inr, ⊎_elim, refl}
+use Rattle.std.proofs.Common.{◌≡◌, ◌⊎◌, ℕ, ◌∙◌, ◌+◌, ◌++◌, [], List, sym, ap, subst, arith, inl, inr, ⊎_elim, refl}
 use Rattle.onbar_grammar.specs.Script.{Space}
 use Rattle.script_lines.specs.Cutting.{LinesView}
 use Rattle.site_headers.specs.Views.{spaces_of, head_of}

@@ -1,4 +1,4 @@
-use Rattle.std.proofs.Common.{◌≡◌, ◌∙◌, ◌+◌, ◌++◌, ℕ, List, [], length, refl, sym, ap, arith}
+use Rattle.std.proofs.Common.{◌≡◌, ◌∙◌, ◌++◌, ℕ, List, [], length, refl, sym, ap, arith}
 use Rattle.std.proofs.lemmas.List.{length-map}
 use Rattle.log_history.specs.History.{History}
 use Rattle.log_record.specs.Entry.{entry_of, history_of}
@@ -6,7 +6,7 @@ use Rattle.site_headers.specs.Views.{spaces_of}
 use Rattle.onbar_grammar.specs.Script.{raw_lines}
 use Rattle.script_lines.specs.Cutting.{LinesView}
 use Rattle.site_model.specs.declared.status.Status.TheVariants.{Ok as Done, LogFull, OutOfMemory as NoMemory, ReadFault as SourceFault}
-use Rattle.site_model.specs.declared.status.LogFull.TheVariants.{Positions}
+use Rattle.log_files.specs.declared.room.LogFull.TheVariants.{Positions}
 use Rattle.site_model.specs.Runs.{ScriptState, Ending, ended, ends_with}
 use Rattle.walks.specs.Courses.{Course}
 use Rattle.script_runs.specs.Scripts.{place_at, run_text}
