@@ -2,13 +2,9 @@
 use Rattle.std.specs.Prelude.{ℕ, suc, ◌-◌, List, [], ◌∷◌, length, reverse, take, map, filter, Bool, ◌&&◌, nat_lt, nat_le, if◌then◌else◌}
 use Rattle.std.specs.List.{flat_map, list_any}
 use Rattle.log_history.specs.History.{LogEntry, History, entry_at}
-use Rattle.log_history.specs.Live.{reset_points}
 use Rattle.log_history.specs.Effects.{Change, change_by, effective, writes_of}
-use Rattle.backup_lines.specs.Lines.{Span}
-use Rattle.backup_lines.specs.Chains.{top_of}
 use Rattle.site_worlds.specs.Worlds.{Site}
-use Rattle.site_worlds.specs.Objects.{numbers}
-use Rattle.site_courses.specs.Plans.{spans_of, chain_at, is_from_top}
+use Rattle.site_courses.specs.Plans.{logs_at}
 
 -- of records given newest first those at positions that pass
 abbrev pub read_back : (ℕ → Bool) → List LogEntry → List LogEntry
@@ -21,10 +17,6 @@ changes_read is_read history q a =
     flat_map (λ c. map (change_by c) (writes_of (entry_at history c) (read_back is_read (reverse (take (c - 1) history)))))
     (filter (λ x. nat_lt a x) (effective history q))
 
--- a file is needed to a position behind the last archive of some space's chain
-abbrev pub is_needed : Site → ℕ → Span → Bool
-is_needed site to span = list_any (λ space. is_from_top (reset_points site.history) to span (top_of (chain_at site space to))) (numbers (length site.head.spaces))
-
 -- a position is in a file that is needed
 abbrev pub is_read : Site → ℕ → ℕ → Bool
-is_read site to x = list_any (λ span. (nat_le span.first x && nat_le x span.last) && is_needed site to span) (spans_of site)
+is_read site to x = list_any (λ span. nat_le span.first x && nat_le x span.last) (logs_at site to)

@@ -1,31 +1,33 @@
 -- What is read for a restore gives the changes behind an archive.
-use Rattle.std.specs.Prelude.{◌≡◌, ℕ, zero, suc, ◌+◌, ◌-◌, ◌<◌, ◌≤◌, List, [], ◌∷◌, ◌++◌, length, reverse, take, drop, map, filter, fold, Bool, true, false, ◌&&◌, ◌||◌, nat_lt, nat_le, if◌then◌else◌, Option, None, Some}
+use Rattle.std.specs.Prelude.{◌≡◌, ℕ, zero, suc, ◌+◌, ◌-◌, ◌<◌, ◌≤◌, List, [], ◌∷◌, ◌++◌, length, reverse, take, drop, map, filter, fold, Bool, true, false, ◌&&◌, ◌||◌, nat_lt, nat_le, if◌then◌else◌, Option, None, Some, Contains}
+use Rattle.std.specs.Option.{option_map}
 use Rattle.std.specs.List.{AllByRecursion, flat_map, list_any, filter_map, cons_option}
 use Rattle.std.proofs.Common.{arith, refl, sym, ap, subst, ◌∙◌, ⊎_elim, length-take, take-append-drop}
 use Rattle.std.proofs.lemmas.Bool.{cases_lt, false≢true}
 use Rattle.std.proofs.lemmas.Bool.Decides.{nat_tests}
 use Rattle.std.proofs.lemmas.List.{length-reverse, reverse-append}
+use Rattle.std.proofs.lemmas.List.Elements.{Contains-append_left, Contains-append_right}
 use Rattle.log_history.specs.History.{LogEntry, History, begin, write, commit, abort, reset, entry_at, positions}
 use Rattle.log_history.specs.Live.{live, live_by, reset_points, reset_points_back}
 use Rattle.log_history.specs.Transactions.{InOrder, InOrderBack, open_back, low_of, table_back}
 use Rattle.log_history.specs.Effects.{Change, change_by, is_commit, effective, writes_back, writes_of, writes, page_at, with_change}
 use Rattle.history_laws.specs.LiveLaws.{live_along, live_within}
 use Rattle.history_laws.specs.PagesLaws.{changes_above, page_along}
-use Rattle.backup_lines.specs.Lines.{Archive, Span}
-use Rattle.backup_lines.specs.Chains.{is_live_between, top_of}
-use Rattle.backup_lines.specs.ChainsLaws.{between_holds}
+use Rattle.backup_lines.specs.Lines.{Archive, Span, live_archives}
+use Rattle.backup_lines.specs.Chains.{top_of}
+use Rattle.backup_lines.specs.Plans.{SpacePlan, below, plan_of_space, planned_on}
+use Rattle.restore_planner.specs.WantedLaws.{files_wanted}
 use Rattle.site_worlds.specs.Worlds.{Site}
 use Rattle.site_worlds.specs.Files.{first_of_file, low_at}
-use Rattle.site_worlds.specs.Objects.{numbers}
 use Rattle.site_worlds.specs.Fitness.{IsFitSite}
-use Rattle.world_laws.specs.ListLaws.{all_append, all_weaker, none_some, some_same}
+use Rattle.world_laws.specs.ListLaws.{all_append, all_weaker, contains_cases, contains_here, contains_later, contains_none, none_some, some_same}
 use Rattle.world_laws.specs.GrowthLaws.{live_before, first_beyond}
 use Rattle.world_laws.specs.TableLaws.{low_at_rises}
 use Rattle.site_courses.specs.Backups.{files_from}
-use Rattle.site_courses.specs.Plans.{chain_at, is_from_top}
+use Rattle.site_courses.specs.Plans.{chain_at, chain_ids, logs_at, plans_at, spans_of}
 use Rattle.point_laws.specs.TimeLaws.{order_front}
 use Rattle.point_laws.specs.FileLaws.{IsKnown, with_records, without_records, known_by, file_is_known}
-use Rattle.needed_laws.specs.Needed.{read_back, changes_read, is_needed, is_read}
+use Rattle.needed_laws.specs.Needed.{read_back, changes_read, is_read}
 use Rattle.needed_laws.specs.BegunLaws.{begun, begun_some, ReadsSame, reads_same, live_from_begin, low_begun}
 
 filtered : (test : ℕ → Bool) (P : ℕ → Type 0) (xs : List ℕ) → AllByRecursion P xs → AllByRecursion (λ x. (test x ≡ true) × P x) (filter test xs)
@@ -50,48 +52,41 @@ or_true : (a b : Bool) → b ≡ true → (a || b) ≡ true
 or_true true b is = refl
 or_true false b is = is
 
-both_true : (a b : Bool) → a ≡ true → b ≡ true → (a && b) ≡ true
-both_true true b is also = also
-both_true false b is also = is
+-- elements of lists
 
-any_append : (test : ℕ → Bool) (xs ys : List ℕ) → list_any test ys ≡ true → list_any test (xs ++ ys) ≡ true
-any_append test [] ys is = is
-any_append test (x ∷ xs) ys is = or_true (test x) (list_any test (xs ++ ys)) (any_append test xs ys is)
+any_of : {X : Type 0} (test : X → Bool) (xs : List X) (x : X) → Contains xs x → test x ≡ true → list_any test xs ≡ true
+any_of test [] x has is = absurd (contains_none x has)
+any_of test (y ∷ xs) x has is = ⊎_elim
+    (λ it. ap (λ (b : Bool). b || list_any test xs) (ap test it ∙ is))
+    (λ later. or_true (test y) (list_any test xs) (any_of test xs x later is))
+    (contains_cases x y xs has)
 
-any_front : (test : ℕ → Bool) (xs ys : List ℕ) → list_any test xs ≡ true → list_any test (xs ++ ys) ≡ true
-any_front test [] ys is = absurd (false≢true is)
-any_front test (x ∷ xs) ys is = by (test x) is (λ rest. any_front test xs ys rest)
+given_by : {X Y : Type 0} (f : X → Option Y) (xs : List X) (x : X) (y : Y) → Contains xs x → f x ≡ Some y → Contains (filter_map f xs) y
+given_by f [] x y has is = absurd (contains_none x has)
+given_by {X} {Y} f (z ∷ xs) x y has is = ⊎_elim
+    (λ it. subst (λ (o : Option Y). Contains (cons_option o (filter_map f xs)) y) (sym (ap f it ∙ is)) (contains_here y (filter_map f xs)))
+    (λ later. further (f z) (given_by f xs x y later is))
+    (contains_cases x z xs has)
   where
-    by : (b : Bool) → (b || list_any test xs) ≡ true → (list_any test xs ≡ true → list_any test (xs ++ ys) ≡ true) → (b || list_any test (xs ++ ys)) ≡ true
-    by true is later = refl
-    by false is later = later is
-
-any_number : (test : ℕ → Bool) (n k : ℕ) → k < n → test k ≡ true → list_any test (numbers n) ≡ true
-any_number test zero k lt is = absurd (omega (arith, lt))
-any_number test (suc n) k lt is = ⊎_elim
-    (λ early. any_front test (numbers n) (n ∷ []) (any_number test n k early is))
-    (λ late. any_append test (numbers n) (n ∷ []) (last (omega (arith, lt, late))))
-    (cases_lt k n)
-  where
-    last : k ≡ n → list_any test (n ∷ []) ≡ true
-    last same = ap (λ (b : Bool). b || false) (subst (λ (m : ℕ). test m ≡ true) same is)
-
-any_file : (known : ℕ → Option Span) (test : Span → Bool) (file : ℕ) (span : Span) → known file ≡ Some span → test span ≡ true → (k count : ℕ) → k ≤ file → file < k + count
-    → list_any test (filter_map known (files_from k count)) ≡ true
-any_file known test file span is passes k zero le lt = absurd (omega (arith, le, lt))
-any_file known test file span is passes k (suc count) le lt = ⊎_elim
-    (λ later. further (known k) (any_file known test file span is passes (suc k) count (omega (arith, later)) (omega (arith, lt))))
-    (λ here. at_it (omega (arith, le, here)))
-    (cases_lt k file)
-  where
-    further : (o : Option Span) → list_any test (filter_map known (files_from (suc k) count)) ≡ true → list_any test (cons_option o (filter_map known (files_from (suc k) count))) ≡ true
+    further : (o : Option Y) → Contains (filter_map f xs) y → Contains (cons_option o (filter_map f xs)) y
     further None rest = rest
-    further (Some other) rest = or_true (test other) (list_any test (filter_map known (files_from (suc k) count))) rest
+    further (Some other) rest = contains_later y other (filter_map f xs) rest
 
-    at_it : k ≡ file → list_any test (filter_map known (files_from k (suc count))) ≡ true
-    at_it same =
-        ap (λ (o : Option Span). list_any test (cons_option o (filter_map known (files_from (suc k) count)))) (ap known same ∙ is)
-        ∙ ap (λ (b : Bool). b || list_any test (filter_map known (files_from (suc k) count))) passes
+is_below : (n k : ℕ) → k < n → Contains (below n) k
+is_below zero k lt = absurd (omega (arith, lt))
+is_below (suc n) k lt = ⊎_elim
+    (λ early. Contains-append_left (below n) (n ∷ []) k (is_below n k early))
+    (λ late. let last : n ≡ k = omega (arith, lt, late) in
+    Contains-append_right (below n) (n ∷ []) k (subst (λ (m : ℕ). Contains (n ∷ []) m) last (contains_here n [])))
+    (cases_lt k n)
+
+is_among_files : (file k count : ℕ) → k ≤ file → file < k + count → Contains (files_from k count) file
+is_among_files file k zero le lt = absurd (omega (arith, le, lt))
+is_among_files file k (suc count) le lt = ⊎_elim
+    (λ later. contains_later file k (files_from (suc k) count) (is_among_files file (suc k) count (omega (arith, later)) (omega (arith, lt))))
+    (λ here. let same : k ≡ file = omega (arith, le, here) in
+    subst (λ (n : ℕ). Contains (k ∷ files_from (suc k) count) n) same (contains_here k (files_from (suc k) count)))
+    (cases_lt k file)
 
 -- a front one record longer
 take_next : (history : History) (k : ℕ) (entry : LogEntry) → entry_at history (suc k) ≡ Some entry → take (suc k) history ≡ take k history ++ entry ∷ []
@@ -215,21 +210,25 @@ module _ (site : Site) (fit : IsFitSite site) (to : ℕ) (reached : to ≤ lengt
       one = omega arith
 
   module _ (space : ℕ) (in_site : space < length site.head.spaces) (top : Archive) (is_top : top_of (chain_at site space to) ≡ Some top) where
-    abbrev tests : ℕ → Span → Bool
-    tests x span = (nat_le span.first x && nat_le x span.last) && is_needed site to span
+    -- the space's chain is among those that are planned
+    abbrev plan : SpacePlan
+    plan = planned_on space (chain_ids site space to) top
 
-    span_passes : (x : ℕ) (span : Span) → top.low ≤ x → live site.history to x ≡ true → span.first ≤ x → x ≤ span.last → tests x span ≡ true
-    span_passes x span low_le is from within =
-        both_true (nat_le span.first x && nat_le x span.last) (is_needed site to span) ends
-        (any_number (λ s. is_from_top (reset_points site.history) to span (top_of (chain_at site s to))) (length site.head.spaces) space in_site
-        (ap (is_from_top (reset_points site.history) to span) is_top ∙ from_top (nat_lt span.first top.low)))
-      where
-        ends : (nat_le span.first x && nat_le x span.last) ≡ true
-        ends = grind (arith, nat_tests, from, within)
+    is_planned : Contains (plans_at site to) plan
+    is_planned = given_by (plan_of_space (live_archives site.lines) (reset_points site.history) to) (below (length site.head.spaces)) space plan
+        (is_below (length site.head.spaces) space in_site)
+        (ap (option_map (planned_on space (chain_ids site space to))) is_top)
 
-        from_top : (b : Bool) → is_live_between (reset_points site.history) to (if b then top.low else span.first) span.last ≡ true
-        from_top true = between_holds (reset_points site.history) to top.low span.last x low_le within is
-        from_top false = between_holds (reset_points site.history) to span.first span.last x from within is
+    -- a file with a live position behind the chain is among those that are wanted
+    is_needed : (x : ℕ) (span : Span) → Contains (spans_of site) span → top.low ≤ x → live site.history to x ≡ true → span.first ≤ x → x ≤ span.last → is_read site to x ≡ true
+    is_needed x span known low_le is from within =
+        any_of (λ s. nat_le s.first x && nat_le x s.last) (logs_at site to) span
+        ((files_wanted (reset_points site.history) to (plans_at site to) (spans_of site) span known).1 (record {
+          plan = plan;
+          planned = is_planned;
+          needed = record { position = x; first = from; last = within; from = low_le; live = is };
+        }))
+        (grind (arith, nat_tests, from, within))
 
     -- Each position that is wanted behind the last archive of the space's chain is in a file that is needed.
     pub wanted_is_read : (x : ℕ) → top.low ≤ x → 1 ≤ x → live site.history to x ≡ true → is_read site to x ≡ true
@@ -239,9 +238,10 @@ module _ (site : Site) (fit : IsFitSite site) (to : ℕ) (reached : to ≤ lengt
         found = file_of x 1 (length site.starts) (omega arith) (omega (arith, live_within (reset_points site.history) to x is, reached)) (omega (arith, fit.history.begins, some))
 
         by : (o : Option Span) → known_by site site.ring found.0 ≡ o → IsKnown site found.0 o → is_read site to x ≡ true
-        by o known (with_records span same tells filled) = any_file (known_by site site.ring) (tests x) found.0 span (known ∙ same)
-            (span_passes x span low_le is (omega (arith, tells.first, found.3)) (omega (arith, tells.last, found.4)))
-            1 (length site.starts) found.1 (omega (arith, found.2))
+        by o known (with_records span same tells filled) =
+            is_needed x span
+            (given_by (known_by site site.ring) (files_from 1 (length site.starts)) found.0 span (is_among_files found.0 1 (length site.starts) found.1 (omega (arith, found.2))) (known ∙ same))
+            low_le is (omega (arith, tells.first, found.3)) (omega (arith, tells.last, found.4))
         by o known (without_records none empty) = absurd (empty (omega (arith, found.3, found.4)))
 
     -- The needed files suffice: with what they hold the pages at the last archive's position become those at the restore's.

@@ -6,7 +6,7 @@ use Rattle.std.proofs.lemmas.Bool.{cases_lt, false≢true}
 use Rattle.std.proofs.lemmas.Bool.Decides.{nat_tests}
 use Rattle.log_history.specs.Transactions.{last_time}
 use Rattle.backup_lines.specs.Lines.{Span}
-use Rattle.backup_lines.specs.Spans.{Point, at_end, at_file, at_time, Found, at_position, look_in, no_such_log, end_of_file, by_time, find_point}
+use Rattle.backup_lines.specs.Spans.{Point, at_end, at_file, at_time, Found, at_position, look_in, no_such_log, end_of_file, by_time, find_point, is_by}
 use Rattle.std.proofs.lemmas.List.Sums.{prefix_len-le-length}
 use Rattle.site_worlds.specs.Worlds.{Site}
 use Rattle.site_worlds.specs.Objects.{records_in}
@@ -14,7 +14,7 @@ use Rattle.site_worlds.specs.Files.{first_of_file, last_of_file, HasRecords}
 use Rattle.site_worlds.specs.Fitness.{IsFitSite}
 use Rattle.world_laws.specs.GrowthLaws.{first_beyond}
 use Rattle.site_courses.specs.Backups.{files_from}
-use Rattle.site_courses.specs.Plans.{spans_of, is_by, by_time_at, position_of}
+use Rattle.site_courses.specs.Plans.{spans_of, by_time_at, position_of}
 use Rattle.course_laws.specs.AppendingLaws.{above, not_above}
 use Rattle.point_laws.specs.TimeLaws.{time_behind, time_before_it}
 use Rattle.point_laws.specs.FileLaws.{IsSpanOf, IsKnown, with_records, without_records, known_by, file_is_known}

@@ -7,7 +7,8 @@ use Rattle.std.proofs.lemmas.List.{reverse-append, reverse-reverse}
 use Rattle.log_history.specs.History.{LogEntry, History, begin, write, commit, abort, reset}
 use Rattle.log_history.specs.Transactions.{InOrder, InOrderBack, last_time, last_time_back}
 use Rattle.world_laws.specs.ListLaws.{all_append}
-use Rattle.site_courses.specs.Plans.{is_by, by_time_at}
+use Rattle.backup_lines.specs.Spans.{is_by}
+use Rattle.site_courses.specs.Plans.{by_time_at}
 
 module _ {X : Type 0} where
   all_reverse : (P : X → Type 0) (xs : List X) → AllByRecursion P xs → AllByRecursion P (reverse xs)

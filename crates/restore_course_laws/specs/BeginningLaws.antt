@@ -6,7 +6,7 @@ use Rattle.std.proofs.lemmas.List.Sums.{prefix_len-le-length}
 use Rattle.log_history.specs.History.{History}
 use Rattle.log_history.specs.Live.{reset_points}
 use Rattle.backup_lines.specs.Lines.{Archive, live_archives}
-use Rattle.backup_lines.specs.Spans.{Point, at_end, at_file, at_time}
+use Rattle.backup_lines.specs.Spans.{Point, at_end, at_file, at_time, is_by}
 use Rattle.backup_lines.specs.Chains.{chain_of}
 use Rattle.walks.specs.Courses.{make, after_all}
 use Rattle.site_headers.specs.Heads.{Head}
@@ -18,10 +18,11 @@ use Rattle.site_worlds.specs.Moves.{Move, begin_restore, with_prepared, site_aft
 use Rattle.site_worlds.specs.Allowed.{HasRing, CanBegin}
 use Rattle.world_laws.specs.ListLaws.{none_some, some_same}
 use Rattle.world_laws.specs.KeptLaws.{CanAll, fit_after_all}
-use Rattle.site_courses.specs.Faults.{Lacking, Fault}
+use Rattle.backup_lines.specs.declared.objects.Lacking.{Lacking}
+use Rattle.site_courses.specs.Faults.{Fault}
 use Rattle.site_courses.specs.Courses.{SiteCourse, check, in_turn, close_current}
 use Rattle.site_courses.specs.Backups.{save_files, if_lines_full}
-use Rattle.site_courses.specs.Plans.{is_by, position_of, if_no_log, chain_ids, lacking_look, lacking_at, first_of_lists, if_any}
+use Rattle.site_courses.specs.Plans.{position_of, if_no_log, chain_ids, lacking_look, lacking_at, first_of_lists, if_any}
 use Rattle.site_courses.specs.Restores.{if_no_position, prepare, go_on, if_no_number, save_log, restore_to, restore_course}
 use Rattle.site_stories.specs.Restarts.{IsRestart}
 use Rattle.site_stories.specs.Restores.{IsRestore}

@@ -4,3 +4,4 @@ pub mod RestoringLaws
 pub mod RestartLaws
 pub mod BeginningLaws
 pub mod Passing
+pub mod RefusalLaws

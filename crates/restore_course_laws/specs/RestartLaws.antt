@@ -1,5 +1,5 @@
 -- A restart makes the moves of one, and where it answers well it has ended the restore.
-use Rattle.std.specs.Prelude.{◌≡◌, ℕ, zero, suc, ◌^◌, ◌<◌, ◌≤◌, ◌==◌, List, [], ◌∷◌, ◌++◌, length, map, filter, Bool, true, false, nat_le, if◌then◌else◌, Option, None, Some}
+use Rattle.std.specs.Prelude.{◌≡◌, ℕ, zero, suc, ◌^◌, ◌<◌, ◌≤◌, ◌==◌, List, [], ◌∷◌, ◌++◌, length, map, filter, is_none, Bool, true, false, nat_le, if◌then◌else◌, Option, None, Some}
 use Rattle.std.specs.List.{AllByRecursion}
 use mathlib.Core.Logic.{inl, inr}
 use Rattle.std.proofs.Common.{arith, refl, sym, ap, subst, ◌∙◌, ⊎_elim}
@@ -8,15 +8,20 @@ use Rattle.std.proofs.lemmas.Bool.Decides.{nat_tests}
 use Rattle.std.proofs.lemmas.List.{length-map}
 use Rattle.std.proofs.lemmas.List.Elements.{filter-append}
 use Rattle.log_history.specs.History.{LogEntry, begin, write, commit, abort, reset, entry_at}
+use Rattle.log_history.specs.Live.{ResetPoint, reset_points}
 use Rattle.site_worlds.specs.Worlds.{Active, LaneState, Site, stands, blank, merges, replays, stale, lost}
 use Rattle.site_worlds.specs.Files.{EndsInReset}
-use Rattle.site_worlds.specs.Objects.{numbers}
 use Rattle.site_worlds.specs.Fitness.{FitStep, AreInStep, IsFinishing, IsFitSite}
 use Rattle.site_worlds.specs.Moves.{with_prepared}
 use Rattle.site_worlds.specs.Allowed.{HasRing}
 use Rattle.world_laws.specs.ListLaws.{none_some}
 use Rattle.world_laws.specs.RingLaws.{step_of}
-use Rattle.site_courses.specs.Faults.{Fault, Lacking, no_level_0, log_full, no_position}
+use Rattle.backup_lines.specs.Lines.{Archive, live_archives}
+use Rattle.backup_lines.specs.Chains.{and_on, chain_of, last_link}
+use Rattle.backup_lines.specs.Plans.{below, has_no_level_0}
+use Rattle.backup_lines.specs.declared.objects.Lacking.{Lacking}
+use Rattle.backup_lines.specs.declared.objects.Lacking.TheVariants.{NoLevel0}
+use Rattle.site_courses.specs.Faults.{Fault, log_full, no_position}
 use Rattle.site_courses.specs.Courses.{check, in_turn, if_log_lost, if_any_lost, if_lost, first_lost}
 use Rattle.site_courses.specs.Plans.{chain_at, chain_ids, lacking_chains, lacking_at, first_of_lists, if_any}
 use Rattle.site_courses.specs.Restores.{is_reset_of, ends_in_reset, if_no_position, make_ready, go_on, finish, if_prepared, restart_before, restart_from}
@@ -35,7 +40,7 @@ first_none : (first later : List Lacking) → first_of_lists first later ≡ [] 
 first_none [] later is = refl
 first_none (one ∷ more) later is = is
 
-map_none : (list : List ℕ) → map no_level_0 list ≡ [] → list ≡ []
+map_none : (list : List ℕ) → map NoLevel0 list ≡ [] → list ≡ []
 map_none [] is = refl
 map_none (x ∷ list) is = absurd cc
 
@@ -50,27 +55,35 @@ one_none test n is = by (test n) is
     by true is = absurd cc
     by false is = refl
 
-none_passes : (test : ℕ → Bool) (count n : ℕ) → filter test (numbers count) ≡ [] → n < count → test n ≡ false
+none_passes : (test : ℕ → Bool) (count n : ℕ) → filter test (below count) ≡ [] → n < count → test n ≡ false
 none_passes test zero n is lt = absurd (omega (arith, lt))
 none_passes test (suc count) n is lt = ⊎_elim
     (λ below. none_passes test count n parts.0 below)
     (λ from. let last : count ≡ n = omega (arith, from, lt) in subst (λ (k : ℕ). test k ≡ false) last (one_none test count parts.1))
     (cases_lt n count)
   where
-    parts : (filter test (numbers count) ≡ []) × (filter test (count ∷ []) ≡ [])
-    parts = front_none (filter test (numbers count)) (filter test (count ∷ [])) (sym (filter-append test (numbers count) (count ∷ [])) ∙ is)
+    parts : (filter test (below count) ≡ []) × (filter test (count ∷ []) ≡ [])
+    parts = front_none (filter test (below count)) (filter test (count ∷ [])) (sym (filter-append test (below count) (count ∷ [])) ∙ is)
 
-some_in : (n : ℕ) → (n == 0) ≡ false → 1 ≤ n
-some_in n is = grind (arith, nat_tests, is)
+-- a chain has an archive where a level 0 serves
+some_chained : (first : Option Archive) (on : Archive → List Archive) → is_none first ≡ false → 1 ≤ length (and_on first on)
+some_chained None on isnt = absurd (true≢false isnt)
+some_chained (Some archive) on isnt = omega arith
+
+is_chained : (archives : List Archive) (resets : List ResetPoint) (space q : ℕ) → has_no_level_0 archives resets q space ≡ false → 1 ≤ length (chain_of archives resets space q)
+is_chained archives resets space q isnt =
+    some_chained (last_link resets space 0 0 q archives)
+    (λ zero. and_on (last_link resets space 1 zero.copy q archives) (λ one. and_on (last_link resets space 2 one.copy q archives) (λ two. []))) isnt
 
 pub chains_there : (site : Site) (number to : ℕ) → if_any (lacking_at site number to) ≡ None → (space : ℕ) → space < length site.head.spaces → 1 ≤ length (chain_ids site space to)
 chains_there site number to is space lt =
-    let none : filter (λ n. length (chain_at site n to) == 0) (numbers (length site.head.spaces)) ≡ [] =
+    let none : filter (has_no_level_0 (live_archives site.lines) (reset_points site.history) to) (below (length site.head.spaces)) ≡ [] =
     map_none _ (first_none (lacking_chains site to) _ (none_lacking (lacking_at site number to) is)) in
     omega (
       arith,
       length-map (chain_at site space to) (λ a. a.copy),
-      some_in (length (chain_at site space to)) (none_passes (λ n. length (chain_at site n to) == 0) (length site.head.spaces) space none lt),
+      is_chained (live_archives site.lines) (reset_points site.history) space to
+          (none_passes (has_no_level_0 (live_archives site.lines) (reset_points site.history) to) (length site.head.spaces) space none lt),
     )
 
 pub position_there : (site : Site) → if_no_position site ≡ None → length site.history < 2 ^ 48

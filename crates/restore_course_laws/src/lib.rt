@@ -4,6 +4,6 @@
 mod laws;
 
 pub use laws::{
-    a_restart_ends_the_restore, a_restart_makes_its_moves, a_restore_gives_the_pages_at_its_point,
-    a_restore_makes_its_moves,
+    a_restart_ends_or_is_refused_as_it_begins, a_restart_ends_the_restore,
+    a_restart_makes_its_moves, a_restore_gives_the_pages_at_its_point, a_restore_makes_its_moves,
 };

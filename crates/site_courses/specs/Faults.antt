@@ -1,23 +1,13 @@
 -- Why a command ends before its work is done.
 use Rattle.std.specs.Prelude.{ℕ, List, Bool, true, false}
 use Rattle.onbar_grammar.specs.declared.Why.{Why}
+use Rattle.backup_lines.specs.declared.objects.Lacking.{Lacking}
 
 -- why the log takes no records: a file isn't backed up, or an open transaction needs it, or no position is left
 pub data LogFull : Type 0 where
   not_backed_up : (file : ℕ) → LogFull
   needed_by : (file txn : ℕ) → LogFull
   no_position : (end : ℕ) → LogFull
-
--- what a backup object holds
-pub data What : Type 0 where
-  of_space : (space level : ℕ) → What
-  of_log : (file : ℕ) → What
-
--- what a restore lacks
-pub data Lacking : Type 0 where
-  no_level_0 : (space : ℕ) → Lacking
-  missing : (what : What) (copy : ℕ) → Lacking
-  damaged : (what : What) (copy : ℕ) → Lacking
 
 -- The refusals, in the order in which they come; and a call that is cut short, which may stop anywhere.
 pub data Fault : Type 0 where

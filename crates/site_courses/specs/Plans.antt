@@ -1,17 +1,23 @@
 -- What a restore goes to, and what it needs and lacks for that.
-use Rattle.std.specs.Prelude.{ℕ, suc, ◌-◌, ◌==◌, nat_eq, List, [], ◌∷◌, ◌++◌, length, map, filter, drop, flat_map, Bool, true, false, not, ◌&&◌, nat_lt, nat_le, if◌then◌else◌, slice_get, Option, None, Some}
-use Rattle.std.specs.List.{filter_map, list_any, prefix_len}
+use Rattle.std.specs.Prelude.{ℕ, suc, ◌-◌, ◌==◌, nat_eq, List, [], ◌∷◌, ◌++◌, length, map, filter, take, replicate, Bool, not, nat_le, if◌then◌else◌, Option, None, Some}
+use Rattle.std.specs.List.{filter_map, prefix_len}
 use Rattle.std.specs.Cmp.Lexicographic.{pointwise}
-use Rattle.log_history.specs.History.{LogEntry, History, commit, reset}
-use Rattle.log_history.specs.Live.{ResetPoint, reset_points}
+use Rattle.log_history.specs.History.{History}
+use Rattle.log_history.specs.Live.{reset_points}
 use Rattle.backup_lines.specs.Lines.{Archive, Span, live_archives}
-use Rattle.backup_lines.specs.Spans.{Point, at_end, at_file, at_time, Found, at_position, look_in, no_such_log as not_found, find_point, span_of}
-use Rattle.backup_lines.specs.Chains.{chain_of, top_of, is_live_between}
-use Rattle.site_worlds.specs.Worlds.{Ring, LaneState, Site, merges, replays}
+use Rattle.backup_lines.specs.Spans.{Point, at_end, at_file, at_time, Found, at_position, look_in, no_such_log as not_found, find_point, is_by, span_of}
+use Rattle.backup_lines.specs.Chains.{chain_of}
+use Rattle.backup_lines.specs.Plans.{SpacePlan, space_plans, spaces_without_level_0, least_low, files_behind, logs_needed, objects_needed}
+use Rattle.backup_lines.specs.declared.lanes.Chain.{Chain}
+use Rattle.backup_lines.specs.declared.lanes.LaneState.{LaneState as ChunkState}
+use Rattle.backup_lines.specs.declared.lanes.LaneState.TheVariants.{At, Blank, Image, Replay}
+use Rattle.backup_lines.specs.declared.objects.Need.{Need}
+use Rattle.backup_lines.specs.declared.objects.Lacking.{Lacking}
+use Rattle.backup_lines.specs.declared.objects.Lacking.TheVariants.{NoLevel0, Missing, Damaged}
+use Rattle.site_worlds.specs.Worlds.{Ring, LaneState, Site, stands, blank, merges, replays, stale, lost}
 use Rattle.site_worlds.specs.Files.{last_of_file}
-use Rattle.site_worlds.specs.Objects.{numbers}
 use Rattle.site_worlds.specs.Moves.{is_among}
-use Rattle.site_courses.specs.Faults.{What, of_space, of_log, Lacking, no_level_0, missing, damaged, Fault, no_such_log, refused}
+use Rattle.site_courses.specs.Faults.{Fault, no_such_log, refused}
 use Rattle.site_courses.specs.Backups.{span_at, files_from}
 use Rattle.site_courses.specs.Upkeep.{live_copies}
 
@@ -34,11 +40,6 @@ spans_of site = filter_map (span_of site.lines (held_files site site.ring) (back
 
 -- the point
 
-abbrev pub is_by : ℕ → LogEntry → Bool
-is_by time (commit txn at) = nat_le at time
-is_by time (reset restore target at) = nat_le at time
-is_by time entry = true
-
 -- the greatest position up to which each Commit and Reset is by a time
 abbrev pub by_time_at : ℕ → History → ℕ
 by_time_at time history = prefix_len (is_by time) history
@@ -60,10 +61,6 @@ if_no_log point site = if_not_found (find_point point (spans_of site))
 
 -- what is needed
 
-pub record Need : Type 0 where
-  pub what : What
-  pub copy : ℕ
-
 abbrev pub chain_at : Site → ℕ → ℕ → List Archive
 chain_at site space to = chain_of (live_archives site.lines) (reset_points site.history) space to
 
@@ -73,61 +70,51 @@ chain_ids site space to = map (λ archive. archive.copy) (chain_at site space to
 abbrev pub same_ids : List ℕ → List ℕ → Bool
 same_ids xs ys = pointwise nat_eq xs ys
 
--- how many archives of its chain a lane has behind it, in a restore and a chain
-abbrev pub done_in : ℕ → List ℕ → LaneState → ℕ
-done_in number chain (merges restore other archive entries) = if (restore == number) && same_ids chain other then archive else 0
-done_in number chain (replays restore other upto part) = if (restore == number) && same_ids chain other then length chain else 0
-done_in number chain lane = 0
+-- the state of a lane as its chunk's mark says it; that of a stale one counts for no restore
+abbrev pub chain_in : List ℕ → Chain
+chain_in copies = record { len = length copies; copies = take 3 (copies ++ replicate 3 0) }
 
-abbrev pub done_by : ℕ → List ℕ → Option LaneState → ℕ
-done_by number chain None = 0
-done_by number chain (Some lane) = done_in number chain lane
+abbrev pub state_of_lane : LaneState → Option ChunkState
+state_of_lane (stands upto part) = Some (At upto part)
+state_of_lane (blank restore) = Some (Blank restore)
+state_of_lane (merges restore chain archive entries) = Some (Image restore (chain_in chain) archive entries)
+state_of_lane (replays restore chain upto part) = Some (Replay restore (chain_in chain) upto part)
+state_of_lane stale = None
+state_of_lane lost = None
 
 -- while the log is lost no lane has anything behind it
-abbrev pub done_with : Option Ring → ℕ → ℕ
-done_with None done = 0
-done_with (Some ring) done = done
+abbrev pub states_of : Option Ring → List LaneState → List (Option ChunkState)
+states_of None lanes = []
+states_of (Some ring) lanes = map state_of_lane lanes
 
-abbrev pub done_at : Site → ℕ → ℕ → List ℕ → ℕ
-done_at site number space chain = done_with site.ring (done_by number chain (slice_get site.lanes space))
+-- the chains of the spaces for a position, and the files of the log behind them
+abbrev pub plans_at : Site → ℕ → List SpacePlan
+plans_at site to = space_plans (live_archives site.lines) (reset_points site.history) to (length site.head.spaces)
 
-abbrev pub needed_archives : Site → ℕ → ℕ → ℕ → List Need
-needed_archives site number to space =
-    map (λ archive. record { what = of_space archive.space archive.level; copy = archive.copy }) (drop (done_at site number space (chain_ids site space to)) (chain_at site space to))
-
--- the log is needed from the low of a chain's last archive on
-abbrev pub is_from_top : List ResetPoint → ℕ → Span → Option Archive → Bool
-is_from_top resets to span None = false
-is_from_top resets to span (Some top) = is_live_between resets to (if nat_lt span.first top.low then top.low else span.first) span.last
-
-abbrev pub is_needed_log : Site → ℕ → Span → Bool
-is_needed_log site to span =
-    nat_lt 0 span.copy && list_any (λ space. is_from_top (reset_points site.history) to span (top_of (chain_at site space to))) (numbers (length site.head.spaces))
+abbrev pub logs_at : Site → ℕ → List Span
+logs_at site to = files_behind (reset_points site.history) to (least_low (plans_at site to)) (spans_of site)
 
 -- the archives of the chains that aren't merged yet, in order of space and level, then the log files with a copy, in order
 abbrev pub needed : Site → ℕ → ℕ → List Need
-needed site number to =
-    flat_map (needed_archives site number to) (numbers (length site.head.spaces))
-    ++ map (λ span. record { what = of_log span.file; copy = span.copy }) (filter (is_needed_log site to) (spans_of site))
+needed site number to = objects_needed number (states_of site.ring site.lanes) (plans_at site to) (logs_at site to)
 
 -- what is lacking
 
 abbrev pub lacking_of : Site → Need → Option Lacking
 lacking_of site need =
-    if not (is_among (live_copies site) need.copy) then Some (missing need.what need.copy)
-    else (if is_among site.store.damaged need.copy then Some (damaged need.what need.copy) else None)
+    if not (is_among (live_copies site) need.copy) then Some (Missing need.what need.copy)
+    else (if is_among site.store.damaged need.copy then Some (Damaged need.what need.copy) else None)
 
 -- the file in which a time lies and whose records have to be looked at
 abbrev pub looked_at : Found → List Span → List Need
-looked_at (look_in file) spans = map (λ span. record { what = of_log span.file; copy = span.copy }) (filter (λ span. (span.file == file) && nat_lt 0 span.copy) spans)
+looked_at (look_in file) spans = logs_needed (filter (λ span. span.file == file) spans)
 looked_at found spans = []
 
 abbrev pub lacking_look : Point → Site → List Lacking
 lacking_look point site = filter_map (lacking_of site) (looked_at (find_point point (spans_of site)) (spans_of site))
 
 abbrev pub lacking_chains : Site → ℕ → List Lacking
-lacking_chains site to =
-    map no_level_0 (filter (λ space. length (chain_at site space to) == 0) (numbers (length site.head.spaces)))
+lacking_chains site to = map NoLevel0 (spaces_without_level_0 (live_archives site.lines) (reset_points site.history) to (length site.head.spaces))
 
 abbrev pub lacking_objects : Site → ℕ → ℕ → List Lacking
 lacking_objects site number to = filter_map (lacking_of site) (needed site number to)

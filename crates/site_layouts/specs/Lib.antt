@@ -16,3 +16,4 @@ pub mod LanesLaws
 pub mod VoteLaws
 pub mod MarkLaws
 pub mod TellsLaws
+pub mod LogLaws

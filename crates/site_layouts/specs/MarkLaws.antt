@@ -1,14 +1,8 @@
--- The records of marks fill their slots.
+-- The record of a chunk's mark fills its slot.
 use Rattle.std.specs.Prelude.{◌≡◌, ℕ, ◌≤◌, List, [], ◌∷◌, length}
 use Rattle.std.proofs.Common.{arith, refl}
-use Rattle.log_history.specs.History.{History}
-use Rattle.site_worlds.specs.Worlds.{Ring, LaneState, stands, blank, merges, replays, stale, lost}
-use Rattle.site_layouts.specs.Rings.{ring_record}
+use Rattle.site_worlds.specs.Worlds.{LaneState, stands, blank, merges, replays, stale, lost}
 use Rattle.site_layouts.specs.Chunks.{MarkFields, FitsMark, fields_of, mark_of, spelled}
-
-pub length-ring_record : (starts : List ℕ) (history : History) (ring : Ring) → length (ring_record starts history ring) ≡ 255
-unfolding ring_record
-length-ring_record starts history ring = refl
 
 length-spelled : (fields : MarkFields) (chain : List ℕ) → length chain ≤ 3 → length (spelled (record fields { chain = chain })) ≡ 255
 unfolding spelled

@@ -1,12 +1,11 @@
 -- A new site's disks, as they are formatted, show the new world; a site that isn't formatted, and worlds told apart.
-use Rattle.std.specs.Prelude.{◌≡◌, ℕ, ◌+◌, ◌*◌, ◌≤◌, List, [], ◌∷◌, length, map, slice_get, false, Option, Some, None}
+use Rattle.std.specs.Prelude.{◌≡◌, ℕ, ◌+◌, ◌≤◌, List, [], ◌∷◌, length, map, slice_get, false, Option, Some, None}
 use Rattle.std.specs.Option.{option_map}
-use Rattle.std.proofs.Common.{arith, refl, sym, ap, subst, ◌∙◌}
+use Rattle.std.proofs.Common.{refl, sym, ap, subst, ◌∙◌}
 use Rattle.std.proofs.lemmas.List.{length-replicate}
 use Rattle.std.proofs.lemmas.Option.{slice_get-map, slice_get_within}
 use Rattle.log_history.specs.Effects.{Page, empty_page}
 use Rattle.onbar_grammar.specs.Script.{Space}
-use Rattle.site_disk.specs.Bytes.{extent}
 use Rattle.before_images.specs.Saved.{Saved, restored, place_of, put_back, saved_at}
 use Rattle.catalogue_replay.specs.Answers.{HasNoHead}
 use Rattle.catalogue_replay.proofs.SameLemmas.{journals_once}
@@ -17,34 +16,17 @@ use Rattle.lane_ways.specs.Ways.{lane_pages}
 use Rattle.lane_ways.specs.Pictures.{Stand, images_at, pages_at}
 use Rattle.site_model.specs.declared.disk_name.DiskName.{DiskName}
 use Rattle.site_model.specs.declared.disk_name.DiskName.TheVariants.{Cat, Spare, Boot, Log, Volume, Chunk}
-use Rattle.site_worlds.specs.Worlds.{LaneState, Store, World, stands, unformatted, formatted, new_site, new_ring}
+use Rattle.site_worlds.specs.Worlds.{LaneState, Store, World, stands, unformatted, formatted, new_site}
 use Rattle.site_worlds.specs.Lanes.{pages_of_space}
 use Rattle.site_worlds.specs.Moves.{WorldMove, format_site, moves_on, world_after}
 use Rattle.site_worlds.specs.Fitness.{IsFit}
 use Rattle.world_laws.specs.NewLaws.{CanWorldMove}
 use Rattle.site_layouts.specs.Disks.{moves_world_disk}
 use Rattle.site_layouts.specs.Stores.{Held, HoldsCatalogue, catalogue_area, contents_of}
-use Rattle.site_layouts.specs.Rings.{HoldsFile, file_area, ring_record}
 use Rattle.site_layouts.specs.Chunks.{HoldsPages, ShowsChunk, chunk_tail}
 use Rattle.site_layouts.specs.Layouts.{ShowsSite, ShowsWorld}
 use Rattle.site_layouts.specs.ApartLaws.{Awaits, apart}
-use Rattle.site_layouts.specs.Formatted.{FormattedChunk, FormattedLog, IsFormatted, new_ring_record}
-
--- the log
-
-new_record : ring_record (1 ∷ []) [] new_ring ≡ new_ring_record
-unfolding ring_record new_ring_record
-new_record = refl
-
-new_file : (bytes : List ℕ) → (site : ℕ) → FormattedLog site bytes → (file : ℕ) → 1 ≤ file → file ≤ 1 → HoldsFile (1 ∷ []) [] file bytes
-new_file bytes site log file some few =
-    let is : 1 ≡ file = omega (arith, some, few) in
-    subst (λ (f : ℕ). HoldsFile (1 ∷ []) [] f bytes) is (record {
-      bounds = tt;
-      used = log.used;
-      slots = ap (λ (n : ℕ). extent (file_area 1).slots (128 * n) bytes) log.used;
-      reaches = log.reaches;
-    })
+use Rattle.site_layouts.specs.Formatted.{FormattedChunk, IsFormatted}
 
 -- a chunk
 
@@ -100,12 +82,7 @@ new_site_shows head held Cat bytes own whole = record {
 }
 new_site_shows head held Spare bytes own whole = whole
 new_site_shows head held Boot bytes own whole = tt
-new_site_shows head held Log bytes own whole = record {
-  header = whole.header;
-  bounds = record { files = omega arith; backed = omega arith; time = omega arith; positions = omega arith };
-  mark = whole.mark ∙ ap Some (sym new_record);
-  files = new_file bytes head.site whole;
-}
+new_site_shows head held Log bytes own whole = whole
 new_site_shows head held (Volume n) bytes own whole = λ there. record { header = whole there; objects = tt }
 new_site_shows head held (Chunk n) bytes own whole = new_chunk_shows head n bytes whole
 

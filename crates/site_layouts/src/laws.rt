@@ -1,5 +1,5 @@
 //! The laws, each as the contract of a function.
-ghost use Rattle.std.specs.Prelude.{◌≡◌, ◌+◌, ◌<◌, ◌≤◌, ℕ, List, Option, true, false, length, slice_get};
+ghost use Rattle.std.specs.Prelude.{◌≡◌, ◌⊎◌, ◌+◌, ◌<◌, ◌≤◌, ◌∷◌, [], ℕ, suc, List, Option, Some, None, true, false, length, slice_get};
 ghost use Rattle.std.specs.List.{AllByRecursion};
 ghost use Rattle.block_chain.specs.Blocks.{AreApart};
 ghost use Rattle.catalogue_journal.specs.Transactions.{Addition, ended, slots_wanted};
@@ -8,6 +8,9 @@ ghost use Rattle.gated_slots.specs.Slots.{used};
 ghost use Rattle.backup_lines.specs.Lines.{Line};
 ghost use Rattle.log_history.specs.History.{History};
 ghost use Rattle.log_history.specs.Live.{live};
+ghost use Rattle.log_history.specs.Transactions.{last_time};
+ghost use Rattle.log_files.specs.Files.{LogFiles, new_files};
+ghost use Rattle.log_files.specs.Ring.{HoldsRing, MayPass};
 ghost use Rattle.object_volume.specs.Answers.{Judges};
 ghost use Rattle.object_volume.specs.Objects.{Spares};
 ghost use Rattle.object_volume.specs.declared.faults.Soundness.TheVariants.{Sound};
@@ -15,15 +18,19 @@ ghost use Rattle.site_headers.specs.Areas.{slot_count};
 ghost use Rattle.site_headers.specs.Heads.{Head};
 ghost use Rattle.site_headers.specs.Headers.{HasHeader};
 ghost use Rattle.site_model.specs.declared.disk_name.DiskName.{DiskName};
-ghost use Rattle.site_model.specs.declared.disk_name.DiskName.TheVariants.{Chunk as ChunkOf};
+ghost use Rattle.site_model.specs.declared.disk_name.DiskName.TheVariants.{Chunk as ChunkOf, Log as TheLog};
 ghost use Rattle.site_worlds.specs.Allowed.{CanMove, FollowFrom};
 ghost use Rattle.site_worlds.specs.Fitness.{AscendWithin, IsFit, IsFitSite};
 ghost use Rattle.site_worlds.specs.Lanes.{pages_of_space};
-ghost use Rattle.site_worlds.specs.Moves.{Move, WorldMove, move_lanes, site_after, store_after, world_after};
+ghost use Rattle.site_worlds.specs.Moves.{Move, WorldMove, format_log, move_lanes, site_after, site_rules, store_after, world_after};
 ghost use Rattle.site_worlds.specs.Objects.{IsKept, blocks_on};
 ghost use Rattle.site_worlds.specs.Worlds.{Active, Kept, LaneState, Ring, Site, Store, World, lost, new_site, stands};
 ghost use Rattle.space_pages.specs.Pages.{pages_of};
+ghost use Rattle.walks.specs.Courses.{IsOnWay};
+ghost use Rattle.world_laws.specs.KeptLaws.{CanAll};
 ghost use Rattle.world_laws.specs.NewLaws.{CanWorldMove};
+ghost use Rattle.ring_laws.specs.PassedLaws.{AreSteps};
+ghost use Rattle.ring_laws.specs.Rings.{files_after, files_in, files_of, files_on_way};
 ghost use Rattle.site_layouts.specs.ApartLaws.{Awaits};
 ghost use Rattle.site_layouts.specs.Chunks.{FitsMark, HoldsLane, HoldsPages, chunk_tail, mark_of};
 ghost use Rattle.site_layouts.specs.Disks.{moves_disk, moves_world_disk};
@@ -31,7 +38,7 @@ ghost use Rattle.site_layouts.specs.Formatted.{IsFormatted};
 ghost use Rattle.site_layouts.specs.Layouts.{ShowsSite, ShowsWorld};
 ghost use Rattle.site_layouts.specs.NewLaws.{AwaitsWorld};
 ghost use Rattle.site_layouts.specs.PhaseLaws.{site_at};
-ghost use Rattle.site_layouts.specs.Rings.{ring_record};
+ghost use Rattle.site_layouts.specs.Rings.{ShowsRing};
 ghost use Rattle.site_layouts.specs.Stores.{Held, HoldsCatalogue, HoldsSpare, HoldsVolume, IsSound, catalogue_area, contents_of, read_of};
 ghost use Rattle.site_layouts.specs.TellsLaws.{HasMark};
 ghost use Rattle.site_layouts.specs.VolumeLaws.{IsSentTo};
@@ -124,10 +131,9 @@ pub fn a_catalogue_shows_its_store()
         → HoldsCatalogue head (store_after added deleted store) held bytes × HoldsSpare head spare }
 {}
 
-/// The record of a mark has the 255 bytes of its slot.
+/// The record of a chunk's mark has the 255 bytes of its slot.
 pub fn a_mark_fills_its_slot()
-    ensures log { (starts : List ℕ) (history : History) (ring : Ring) → length (ring_record starts history ring) ≡ 255 }
-    ensures chunk { (lane : LaneState) → FitsMark lane → length (mark_of lane) ≡ 255 }
+    ensures { (lane : LaneState) → FitsMark lane → length (mark_of lane) ≡ 255 }
 {}
 
 /// Two states of a lane with the same mark are one, so a chunk shows one state that has a mark.
@@ -136,4 +142,28 @@ pub fn a_mark_tells_its_state()
     ensures chunk { (site count : ℕ) (history : History) (lines : List Line) (number : ℕ) (active : Option Active) (space : ℕ) (lane other : LaneState) (bytes : List ℕ)
         → HasMark lane → HasMark other → HoldsLane site count history lines number active space lane bytes
         → HoldsLane site count history lines number active space other bytes → lane ≡ other }
+{}
+
+/// Where a call of the log may leave what a move makes of the files that it holds, or leave them, each image that comes of one that shows a
+/// fit site shows it still, or shows it behind the move. So it is with moves one after another: an image shows a site on their way. A new
+/// log, behind all that is known of a lost one, shows the site behind its formatting.
+pub fn a_call_of_the_log_makes_its_moves()
+    ensures one { (move : Move) (site : Site) (held : Held) (files : LogFiles) (old new : List ℕ) → CanMove move site → IsFitSite site → (move ≡ format_log → ⊥)
+        → files_in site ≡ Some files → MayPass site.head.site files (files_after move files ∷ []) old new → ShowsSite TheLog site held old
+        → ShowsSite TheLog site held new ⊎ ShowsSite TheLog (site_after move site) held new }
+    ensures way { (moves : List Move) (site : Site) (held : Held) (files : LogFiles) (old new : List ℕ) → AreSteps moves → CanAll moves site → IsFitSite site
+        → files_in site ≡ Some files → MayPass site.head.site files (files_on_way moves files) old new → ShowsSite TheLog site held old
+        → (other : Site) × IsOnWay site_rules moves site other × ShowsSite TheLog other held new }
+    ensures format { (site : Site) (held : Held) (bytes : List ℕ) → IsFitSite site
+        → HoldsRing site.head.site (new_files (suc (length site.starts)) (suc (length site.history)) (last_time site.history)) bytes
+        → ShowsSite TheLog (site_after format_log site) held bytes }
+{}
+
+/// A log shows a site whose log is lost or one whose log is there, and of this the files that it holds.
+pub fn a_log_tells_what_it_holds()
+    ensures either { (site : ℕ) (starts others : List ℕ) (history other : History) (ring : Ring) (bytes : List ℕ)
+        → ShowsRing site starts history None bytes → ShowsRing site others other (Some ring) bytes → ⊥ }
+    ensures files { (site : ℕ) (starts others : List ℕ) (history other : History) (first second : Ring) (bytes : List ℕ)
+        → ShowsRing site starts history (Some first) bytes → ShowsRing site others other (Some second) bytes
+        → files_of starts history first ≡ files_of others other second }
 {}

@@ -13,7 +13,8 @@ use Rattle.site_headers.specs.Heads.{Head}
 use Rattle.backup_lines.specs.Lines.{Archive, Span, Line, archived, logged, gone}
 use Rattle.site_worlds.specs.Worlds.{Store}
 use Rattle.site_worlds.specs.Files.{first_from, first_of_file, last_of_file, target_of, Agrees, last_logged}
-use Rattle.site_worlds.specs.Lanes.{pages_of_space, IsPlace, changes_behind, count_of_first}
+use Rattle.lane_ways.specs.Ways.{IsPlace, changes_behind, count_of_first}
+use Rattle.site_worlds.specs.Lanes.{pages_of_space}
 use Rattle.site_worlds.specs.Fitness.{IsWithin, IsBriefBack, FitHistory, FitLevel, FitLine, FitLines}
 use Rattle.world_laws.specs.GrowthLaws.{archive_bytes_before, entry_before, entry_within, first_beyond, lane_before, live_before, log_bytes_before, low_before, time_before}
 use Rattle.world_laws.specs.LinesLaws.{first_some, logged_reaches}

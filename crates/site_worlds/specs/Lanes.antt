@@ -1,37 +1,12 @@
 -- The lanes: where each may be, by the history and the restore that is under way.
-use Rattle.std.specs.Prelude.{◌≡◌, ℕ, suc, ◌-◌, ◌==◌, ◌<◌, ◌≤◌, List, [], ◌∷◌, length, filter, true, nat_lt, if◌then◌else◌, slice_get, slice_index, Option, None, Some, Contains}
+use Rattle.std.specs.Prelude.{◌≡◌, ℕ, suc, ◌-◌, ◌<◌, ◌≤◌, List, [], ◌∷◌, length, slice_get, slice_index, Option, None, Some, Contains}
 use Rattle.log_history.specs.History.{History}
-use Rattle.log_history.specs.Live.{live}
-use Rattle.log_history.specs.Effects.{Change, changes}
+use Rattle.lane_ways.specs.Ways.{IsPlace}
 use Rattle.onbar_grammar.specs.Script.{Space}
 use Rattle.backup_lines.specs.Lines.{Archive, Line, archived}
 use Rattle.site_worlds.specs.Worlds.{Active, LaneState, stands, blank, merges, replays, stale, lost}
 use Rattle.site_worlds.specs.Files.{low_at}
 use Rattle.site_worlds.specs.Objects.{entries_in}
-
--- the way of a lane: the changes of its space that are in effect at a position, in order
-abbrev pub lane_changes : History → ℕ → ℕ → List Change
-lane_changes history n space = filter (λ change. change.patch.space == space) (changes history n)
-
--- those of commits behind a position
-abbrev pub changes_behind : ℕ → List Change → List Change
-changes_behind upto list = filter (λ change. nat_lt upto change.commit) list
-
--- how many changes at the front of a list are of a commit
-abbrev pub count_of : ℕ → List Change → ℕ
-count_of commit [] = 0
-count_of commit (change ∷ list) = if change.commit == commit then suc (count_of commit list) else 0
-
--- how many are of the first commit that any is of; 0 where there is none
-abbrev pub count_of_first : List Change → ℕ
-count_of_first [] = 0
-count_of_first (change ∷ list) = suc (count_of change.commit list)
-
--- A place on the way to n: all commits in effect up to a position that is live at n, and of the next commit that writes into the space
--- at most as many Writes as it has there.
-pub record IsPlace (history : History) (n space upto part : ℕ) : Type 0 where
-  pub is_live : live history n upto ≡ true
-  pub within : part ≤ count_of_first (changes_behind upto (lane_changes history n space))
 
 -- a line is of an archive of this space with this copy id
 pub record IsArchived (lines : List Line) (space copy : ℕ) (archive : Archive) : Type 0 where

@@ -1,5 +1,5 @@
 -- The moves of a site: each changes what one disk shows, or what the chunks of one phase do.
-use Rattle.std.specs.Prelude.{◌≡◌, ◌⊎◌, ℕ, suc, ◌+◌, ◌==◌, ◌≤◌, List, [], ◌∷◌, ◌++◌, length, map, filter, Bool, true, false, not, Option, None, Some, refl}
+use Rattle.std.specs.Prelude.{◌≡◌, ◌⊎◌, ℕ, suc, ◌+◌, ◌==◌, List, [], ◌∷◌, ◌++◌, length, map, filter, Bool, true, false, not, Option, None, Some, refl}
 use Rattle.std.specs.List.{list_any}
 use Rattle.std.specs.Option.{option_map}
 use mathlib.Core.Logic.{inl}
@@ -10,7 +10,8 @@ use Rattle.backup_lines.specs.Spans.{Point}
 use Rattle.catalogue_slots.specs.Records.{slots_for}
 use Rattle.walks.specs.Courses.{MoveRules}
 use Rattle.site_worlds.specs.Worlds.{Kept, Store, Ring, Active, LaneState, Site, World, stands, blank, merges, replays, stale, lost, unformatted, formatted, new_site}
-use Rattle.site_worlds.specs.Lanes.{IsPlace, FitMerge, FitReplay}
+use Rattle.lane_ways.specs.Ways.{IsPlace, IsNotBefore}
+use Rattle.site_worlds.specs.Lanes.{FitMerge, FitReplay}
 
 -- What a command does to the parts of a site:
 --   to the log: records go into the current file; the Reset of the restore under way goes there; the current file is closed; the oldest held
@@ -125,10 +126,6 @@ site_after (begin_restore point to) site = record site {
 site_after (set_prepared prepared) site = record site { active = option_map (with_prepared prepared) site.active }
 site_after end_restore site = record site { active = None }
 site_after (move_lanes goals) site = record site { lanes = goals }
-
--- of two places on a way the second isn't before the first
-abbrev pub IsNotBefore : (upto part further more : ℕ) → Type 0
-IsNotBefore upto part further more = (upto ≤ further) × (upto ≡ further → part ≤ more)
 
 -- A lane on its way to the end of the log is at a place not before its first one.
 abbrev pub IsBetweenPlaces : Site → ℕ → LaneState → LaneState → Type 0

@@ -16,7 +16,8 @@ use Rattle.backup_lines.specs.Lines.{Archive, Line, archived, logged}
 use Rattle.backup_lines.specs.Spans.{Point}
 use Rattle.site_worlds.specs.Worlds.{Ring, Active, LaneState, Site, stands, blank, merges, replays, stale, lost}
 use Rattle.site_worlds.specs.Files.{first_of_file, IsSaved, EndsInReset, last_logged}
-use Rattle.site_worlds.specs.Lanes.{IsArchived, IsChain, IsPlace, FitLane, IsAtEnd, IsOnTheWay, EachLane}
+use Rattle.lane_ways.specs.Ways.{IsPlace}
+use Rattle.site_worlds.specs.Lanes.{IsArchived, IsChain, FitLane, IsAtEnd, IsOnTheWay, EachLane}
 use Rattle.site_worlds.specs.Fitness.{FitFiles, FitLine, FitSaved, FitActive, FitStep, IsFitSite}
 use Rattle.site_worlds.specs.Moves.{without_restore, with_prepared, site_after, append_lines, begin_restore, set_prepared, end_restore}
 use Rattle.site_worlds.specs.Allowed.{HasRing, CanAddLines, CanBegin, CanSetPrepared, CanEnd}

@@ -18,7 +18,7 @@ use Rattle.history_laws.specs.PagesLaws.{changes_above, changes_along, changes_b
 use Rattle.backup_lines.specs.Lines.{Archive, Span}
 use Rattle.site_worlds.specs.Files.{first_from, low_at}
 use Rattle.site_worlds.specs.Objects.{pages_in, entries_in, archive_head, archive_bytes, log_head, log_bytes, records_in, numbers}
-use Rattle.site_worlds.specs.Lanes.{lane_changes, changes_behind, count_of, count_of_first, IsPlace}
+use Rattle.lane_ways.specs.Ways.{lane_changes, changes_behind, count_of, count_of_first, IsPlace}
 use Rattle.site_worlds.specs.Allowed.{IsNoReset}
 
 -- live positions

@@ -14,7 +14,8 @@ use Rattle.backup_lines.specs.Lines.{Archive, Line, archived, logged, gone, arch
 use Rattle.backup_lines.specs.Chains.{is_link, is_later, last_link, and_on, chain_of}
 use Rattle.site_worlds.specs.Worlds.{Active, LaneState, Site, stands, blank, merges, replays, stale, lost}
 use Rattle.site_worlds.specs.Files.{low_at}
-use Rattle.site_worlds.specs.Lanes.{IsArchived, IsChain, IsPlace, FitReplay, FitLane, IsAtRest, IsOnTheWay}
+use Rattle.lane_ways.specs.Ways.{IsPlace}
+use Rattle.site_worlds.specs.Lanes.{IsArchived, IsChain, FitReplay, FitLane, IsAtRest, IsOnTheWay}
 use Rattle.site_worlds.specs.Moves.{IsBetween, IsOnLane}
 use Rattle.site_worlds.specs.Allowed.{CanAdvance, CanPrepare, CanRestore, CanFinish, CanLane, stays, closes, advances, prepares, restores, finishes, planned}
 use Rattle.world_laws.specs.TableLaws.{low_at_rises}
