@@ -1,0 +1,5 @@
+pub mod Reading
+pub mod KeptLaws
+pub mod TableLaws
+pub mod ChangesLaws
+pub mod HeldLaws

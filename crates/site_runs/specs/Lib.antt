@@ -1,0 +1,4 @@
+pub mod Scripts
+pub mod AppendLaws
+pub mod ScriptLaws
+pub mod Passing
