@@ -6,6 +6,7 @@
 
 mod batch;
 mod formatting;
+mod places;
 mod ring;
 #[cfg(test)]
 mod tests;

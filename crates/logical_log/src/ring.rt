@@ -1,28 +1,32 @@
 //! The ring of log files.
-ghost use Rattle.std.specs.Prelude.{◌≡◌, ◌⊎◌, ◌+◌, ◌-◌, ◌*◌, ◌%◌, ◌<◌, ◌≤◌, ◌^◌, ◌∷◌, [], ◌↔◌, ◌==◌, ℕ, List, true, false, length, map, IsTrue, IfOk, IfErr, OnOk, OnErr, IsErrOf, Option, vec_len, vec_capacity};
+ghost use Rattle.std.specs.Prelude.{◌≡◌, ◌⊎◌, ◌+◌, ◌-◌, ◌*◌, ◌%◌, ◌<◌, ◌≤◌, ◌^◌, ◌∷◌, [], ◌↔◌, ◌==◌, ℕ, List, true, false, length, map, IsTrue, IfOk, IfErr, OnOk, OnErr, IsErrOf, IfSome, IsNone, Option, Some, vec_len, vec_capacity};
 ghost use Rattle.std.specs.List.{AllByRecursion, flat_map};
 ghost use Rattle.log_history.specs.History.{History, reset};
 ghost use Rattle.log_record.specs.Layout.{IsRecord, spelling};
 ghost use Rattle.log_record.specs.Entry.{history_of};
 ghost use Rattle.site_disk.specs.Bytes.{Same};
 ghost use Rattle.site_disk.specs.Causes.{HasCause, Rose};
-ghost use Rattle.site_disk.specs.Images.{Leaves, OnlyAfter};
+ghost use Rattle.site_disk.specs.Images.{Leaves, OnlyAfter, Unchanged};
 ghost use Rattle.site_disk.specs.Ledger.{MayUse, Uses};
 ghost use Rattle.site_disk.specs.Seen.{seen};
-ghost use Rattle.log_files.specs.Files.{LogFiles, AreFiles, end_of, last_time_in, spans_of, closed_id, is_reset, new_files, appended, closed, with_next, with_backed, with_place, without_oldest, AreSaved, with_empty, passed_to_head};
-ghost use Rattle.log_files.specs.Ring.{MayPass};
+ghost use Rattle.log_files.specs.Files.{LogFiles, AreFiles, end_of, last_time_in, records_of, spans_of, closed_id, is_reset, new_files, appended, closed, with_next, with_backed, with_place, without_oldest, AreSaved, with_empty, passed_to_head};
+ghost use Rattle.log_files.specs.Ring.{HoldsRing, MayPass};
+ghost use Rattle.log_files.specs.declared.faults.LogFault.{LogFault as LogFaultView};
 ghost use Rattle.log_files.specs.Rooms.{HasRoom, HasNext, room_of};
 ghost use Rattle.log_files.specs.Views.{spans_in};
 ghost use Rattle.log_files.specs.Answers.{IsFailure, FailsOn};
+ghost use Rattle.log_scan.specs.Refusals.{IsDecided, IsNotLost, Refuses};
 ghost use Rattle.logical_log.specs.Formats.{MayFormat};
 
 use crate::batch::spelled;
 use crate::formatting::write_empty;
+use crate::places::place_in;
 use crate::writing::{append_bytes, store_record};
 use backup_lines::FileSpan;
 use gated_slots::{Slots, header_open};
 use log_files::{HeldFiles, LogFault, MARK_AT, Room, slots_of};
 use log_record::Record;
+use log_scan::{read_file, read_ring};
 use site_disk::{Disk, Era, Failed};
 use site_headers::write_log_header;
 use std::alloc::Global;
@@ -66,6 +70,9 @@ impl<D: Disk> LogRing<D> {
     pub fn sync(&mut self, era: &Era) -> Result<(), Failed>
         requires { MayUse era.now (D.ledger (disk_of self.old)) }
         ensures value { self.new ≡ with_disk self.old (disk_of self.new) }
+        ensures made { IsMade self.old → IsMade self.new }
+        ensures opened { IsOpen self.old → OnOk result (IsOpen self.new) }
+        ensures told { (files : LogFiles) → TellsOf files self.old → OnOk result (TellsOf files self.new) }
         ensures bytes { OnOk result (D.bytes (disk_of self.new) ≡ D.bytes (disk_of self.old)) }
         ensures stands { IsTrue D.is_modelled → (site : ℕ) (files : LogFiles) → Stands site files (seen D.Disk (disk_of self.old)) self.old
             → OnOk result (Stands site files (seen D.Disk (disk_of self.new)) self.new) }
@@ -121,6 +128,77 @@ impl<D: Disk> LogRing<D> {
         Ok(())
     }
 
+    /// Reads the log of a site, after a sync: its header, then the mark and the gates of the files held, then their slots used
+    /// in order of file, each once and those of a file in one read.
+    ///
+    /// `LogLost`: the header isn't a valid one of the site. `BadRecord`: the mark isn't in the grammar, with what the gates
+    /// say of the files that it names, or this slot is the first one that isn't.
+    pub fn open(&mut self, era: &Era, site: u64) -> Result<(), LogFault>
+        requires era { MayUse era.now (D.ledger (disk_of self.old)) }
+        requires made { IsMade self.old }
+
+        ensures made { IsMade self.new }
+        ensures opened { OnOk result (IsOpen self.new) }
+        ensures stands { IsTrue D.is_modelled → OnOk result ((files : LogFiles) × Stands site files (seen D.Disk (disk_of self.new)) self.new) }
+        ensures durable { IsTrue D.is_modelled
+            → OnOk result (OnlyAfter era.now.number (D.bytes (disk_of self.new)) (D.image (disk_of self.new))) }
+
+        // Opened where the disk holds files, and then with these; refused where its bytes refuse, and then by that fault.
+        ensures holds { IsTrue D.is_modelled → (files : LogFiles) → HoldsRing site files (D.bytes (disk_of self.old))
+            → OnOk result (Stands site files (seen D.Disk (disk_of self.new)) self.new) × IfErr result IsFailure }
+        ensures refuses { IsTrue D.is_modelled → (fault : LogFaultView) → Refuses site (D.bytes (disk_of self.old)) fault
+            → OnOk result ⊥ × IfErr result (λ other. IsFailure other ⊎ (other ≡ fault)) }
+        ensures refused { IsTrue D.is_modelled → IfErr result (λ fault. IsFailure fault ⊎ Refuses site (D.bytes (disk_of self.old)) fault) }
+        ensures failed { IfErr result (FailsOn (D.ledger (disk_of self.old)).faults (D.ledger (disk_of self.new)).faults) }
+
+        // Nothing is written, and without Ok the value stays as it was.
+        ensures value { OnErr result (self.new ≡ with_disk self.old (disk_of self.new)) }
+        ensures bytes { OnOk result (D.bytes (disk_of self.new) ≡ D.bytes (disk_of self.old)) }
+        ensures kept { IfErr result (λ fault. IsDecided fault → D.bytes (disk_of self.new) ≡ D.bytes (disk_of self.old)) }
+        ensures crash { Leaves era.now.number Same (D.image (disk_of self.old)) (D.image (disk_of self.new)) }
+        ensures ledger { Uses era.now 269056 0 (D.ledger (disk_of self.old)) (D.ledger (disk_of self.new)) }
+    {
+        let found = read_ring(self.alloc, &mut self.disk, era, site)?;
+        self.mark = found.mark;
+        self.slots = found.slots;
+        self.held = found.held;
+        Ok(())
+    }
+
+    /// The records of a file, read now and in one read. None where no such file is held.
+    pub fn records(&mut self, era: &Era, file: u64) -> Result<Vec<Record>, LogFault>
+        requires era { MayUse era.now (D.ledger (disk_of self.old)) }
+        requires opened { IsOpen self.old }
+
+        ensures opened { OnOk result (IsOpen self.new) }
+        ensures told { (files : LogFiles) → TellsOf files self.old → TellsOf files self.new }
+        ensures counted { (files : LogFiles) → TellsOf files self.old → IfOk result (λ records. length records.items ≡ length (records_of files file)) }
+        ensures records { IsTrue D.is_modelled → (site : ℕ) (files : LogFiles) → Stands site files (seen D.Disk (disk_of self.old)) self.old
+            → IfOk result (λ records. history_of records.items ≡ records_of files file) }
+        ensures stands { IsTrue D.is_modelled → (site : ℕ) (files : LogFiles) → Stands site files (seen D.Disk (disk_of self.old)) self.old
+            → OnOk result (Stands site files (seen D.Disk (disk_of self.new)) self.new) }
+        // A slot that isn't in the grammar now, which never comes where the log stands on a disk that tells its bytes.
+        ensures not_lost { IfErr result IsNotLost }
+        ensures sound { IsTrue D.is_modelled → (site : ℕ) (files : LogFiles) → Stands site files (seen D.Disk (disk_of self.old)) self.old
+            → IfErr result IsFailure }
+        ensures failed { IfErr result (FailsOn (D.ledger (disk_of self.old)).faults (D.ledger (disk_of self.new)).faults) }
+
+        // Nothing is written, and the value stays.
+        ensures value { self.new ≡ with_disk self.old (disk_of self.new) }
+        ensures bytes { OnOk result (D.bytes (disk_of self.new) ≡ D.bytes (disk_of self.old)) }
+        ensures kept { IfErr result (λ fault. IsDecided fault → D.bytes (disk_of self.new) ≡ D.bytes (disk_of self.old)) }
+        ensures images { OnOk result (Unchanged (D.image (disk_of self.old)) (D.image (disk_of self.new))) }
+        ensures crash { Leaves era.now.number Same (D.image (disk_of self.old)) (D.image (disk_of self.new)) }
+        ensures ledger { Uses era.now 32768 0 (D.ledger (disk_of self.old)) (D.ledger (disk_of self.new)) }
+    {
+        match place_in(&self.held, file) {
+            Some((first, count)) => {
+                read_file(self.alloc, &mut self.disk, era, file, first, count)
+            }
+            None => Ok(Vec::new(self.alloc)),
+        }
+    }
+
     /// End, the last position.
     pub fn end(&self) -> u64
         requires { IsOpen self.now }
@@ -143,6 +221,36 @@ impl<D: Disk> LogRing<D> {
         ensures { (files : LogFiles) → TellsOf files self.now → result ≡ files.backed }
     {
         self.held.mark.backed_up_to
+    }
+
+    /// The first file that isn't backed up, where it is closed.
+    pub fn next_to_back_up(&self) -> Option<u64>
+        requires { IsOpen self.now }
+        ensures file { (files : LogFiles) → TellsOf files self.now → IfSome result (λ file. (file ≡ files.backed + 1) × (file ≤ closed_id files)) }
+        ensures none { (files : LogFiles) → TellsOf files self.now → IsNone result → closed_id files ≤ files.backed }
+        // What `mark_backed_up` asks for.
+        ensures next { (files : LogFiles) (file : ℕ) → TellsOf files self.now → result ≡ Some file → file ≡ files.backed + 1 }
+        ensures closed { (files : LogFiles) (file : ℕ) → TellsOf files self.now → result ≡ Some file → file ≤ closed_id files }
+    {
+        let backed = self.backed_up_to();
+        if backed >= self.closed_up_to() {
+            return None;
+        }
+        Some(backed + 1)
+    }
+
+    /// Whether all records held are backed up and the current file takes no more: it is closed or empty.
+    pub fn is_saved(&self) -> bool
+        requires { IsOpen self.now }
+        ensures whether { (files : LogFiles) → TellsOf files self.now → IsTrue result ↔ AreSaved files }
+        // What `reset` asks for.
+        ensures saved { (files : LogFiles) → TellsOf files self.now → IsTrue result → AreSaved files }
+    {
+        let mark = &self.held.mark;
+        if self.held.used() == 0 {
+            return mark.current - 1 <= mark.backed_up_to;
+        }
+        mark.is_closed && mark.backed_up_to == mark.current
     }
 
     /// The id of the last file that is closed.

@@ -1,0 +1,9 @@
+pub mod ScanLemmas
+pub mod CountLemmas
+pub mod SlotLemmas
+pub mod HeaderLemmas
+pub mod FrontLemmas
+pub mod FilesLemmas
+pub mod PartwayLemmas
+pub mod FoundLemmas
+pub mod LawLemmas
