@@ -1,0 +1,6 @@
+pub mod HeaderLemmas
+pub mod ClosingLemmas
+pub mod PageLemmas
+pub mod StateLemmas
+pub mod LaneLemmas
+pub mod ShowLemmas

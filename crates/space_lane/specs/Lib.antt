@@ -1,0 +1,5 @@
+pub mod Chunks
+pub mod Lanes
+pub mod Stops
+pub mod Answers
+pub mod Shown
