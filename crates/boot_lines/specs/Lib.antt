@@ -1,0 +1,4 @@
+pub mod LineLayout
+pub mod MarkLayout
+pub mod LineLaws
+pub mod MarkLaws
