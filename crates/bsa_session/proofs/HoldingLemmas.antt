@@ -5,7 +5,7 @@ use Rattle.block_chain.specs.Blocks.{blocks_of_runs}
 use Rattle.block_chain.specs.declared.runs.Run.{Run}
 use Rattle.object_volume.specs.Volumes.{blocks_in, free_of, blocks_sent, blocks_or_none, table_of, IsIdle, IsLive, Grows}
 use Rattle.object_volume.specs.declared.volume.Volume.{Volume}
-use Rattle.bsa_session.specs.Holdings.{Holds, blocks_of_all}
+use Rattle.object_store.specs.Holdings.{Holds, blocks_of_all}
 
 -- what follows for each follows for all
 pub each_more : {P Q : List Run → Type 0} → ((runs : List Run) → P runs → Q runs) → (objects : List (List Run)) → AllByRecursion P objects → AllByRecursion Q objects

@@ -3,3 +3,5 @@ pub mod HoldingLemmas
 pub mod StagingLemmas
 pub mod QueryingLemmas
 pub mod SendingLemmas
+pub mod VotingLemmas
+pub mod FetchingLemmas

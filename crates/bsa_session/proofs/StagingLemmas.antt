@@ -68,7 +68,7 @@ waits : (draft : machine.Draft) (w : Work) → machine.is_waiting (with_work dra
 waits draft Waiting is_so = refl
 waits draft (Sending descriptor) is_so = cc
 waits draft (Querying matches) is_so = cc
-waits draft (Getting copy at) is_so = cc
+waits draft (Getting reading) is_so = cc
 
 pub waiting_view : (s : State) (t : Transaction) → s ≡ state.Open t → machine.is_waiting (view_of s) ≡ true → view_of s ≡ machine.waiting (draft_of t)
 waiting_view s t is is_so =

@@ -23,7 +23,7 @@ abbrev pub with_work : machine.Draft → Work → machine.State
 with_work draft Waiting = machine.waiting draft
 with_work draft (Sending descriptor) = machine.sending draft descriptor
 with_work draft (Querying matches) = machine.querying draft (drop matches.given matches.copies.items)
-with_work draft (Getting copy at) = machine.getting draft copy at
+with_work draft (Getting reading) = machine.getting draft reading.copy reading.at
 
 abbrev pub view_of : State → machine.State
 view_of state.None = machine.none

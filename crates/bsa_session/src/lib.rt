@@ -4,12 +4,15 @@
 //! committed objects. A fault breaks a session.
 #![tactic(auto)]
 
+mod fetching;
 mod querying;
 mod sending;
 mod session;
 mod state;
 #[cfg(test)]
 mod tests;
+mod voting;
 
+pub use object_store::Store;
 pub use session::Session;
 pub use session_machine::{Access, BsaRc, Lack};

@@ -12,7 +12,7 @@ ghost use Rattle.session_machine.specs.Calls.{Creates, SendsPiece, EndsData};
 ghost use Rattle.session_machine.specs.Conditions.{IsSound};
 ghost use Rattle.session_machine.specs.Records.{Spells, may_create};
 ghost use Rattle.session_machine.specs.States.{is_sending, is_under_way};
-ghost use Rattle.bsa_session.specs.Holdings.{Holds};
+ghost use Rattle.object_store.specs.Holdings.{Holds};
 ghost use Rattle.catalogue_journal.specs.Catalogues.{additions_of};
 ghost use Rattle.bsa_session.specs.Ended.{last_runs, runs_of_last, IsSentAs};
 ghost use Rattle.bsa_session.specs.Staging.{AddsLast, IsEndAnswer};

@@ -1,6 +1,7 @@
 //! What a session is in.
 use bsa_descriptor::Descriptor;
 use catalogue_journal::Staged;
+use object_volume::Cursor;
 
 /// Where and when a session was begun.
 #[derive(Clone, Copy, Debug, PartialEq, Eq)]
@@ -16,8 +17,15 @@ pub(crate) enum Work {
     /// An object with this descriptor is being sent.
     Sending(Descriptor),
     Querying(Matches),
-    /// The object of this copy id is read, and so many of its bytes were given.
-    Getting { copy: u64, at: u64 },
+    Getting(Reading),
+}
+
+/// The object of a copy id that is read, how many of its bytes were given, and where the read goes on.
+#[derive(Clone, Copy, Debug, PartialEq, Eq)]
+pub(crate) struct Reading {
+    pub(crate) copy: u64,
+    pub(crate) at: u64,
+    pub(crate) cursor: Cursor,
 }
 
 /// The copy ids that a query found, and how many of them were given.

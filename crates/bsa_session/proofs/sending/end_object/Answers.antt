@@ -5,7 +5,7 @@ use Rattle.block_chain.specs.declared.runs.Run.{Run}
 use Rattle.catalogue_journal.specs.Views.{addition_of}
 use Rattle.object_volume.specs.Objects.{object}
 use Rattle.bsa_session.specs.Ended.{runs_of_last}
-use Rattle.bsa_session.specs.Holdings.{Holds}
+use Rattle.object_store.specs.Holdings.{Holds}
 use Rattle.bsa_session.proofs.HoldingLemmas.{holds_ended}
 use Rattle.bsa_session.proofs.SendingLemmas.{runs_of_last-push}
 use Rattle.bsa_session.proofs.sending.end_object.Goals as goal

@@ -1,0 +1,7 @@
+use Rattle.std.proofs.Common.{map, take}
+use Rattle.catalogue_journal.specs.Views.{addition_of}
+use Rattle.object_store.specs.Returns.{place_of_addition, AllGiveBack}
+use Rattle.object_store.proofs.releasing.release_additions.Given as goal
+
+abbrev pub invariant-loop-object : goal.invariant-loop-object
+invariant-loop-object g l = AllGiveBack g.D.Disk.is_modelled g.D.Disk.bytes (take l.object-index (map place_of_addition (map addition_of l.added))) l.initial.volumes l.volumes

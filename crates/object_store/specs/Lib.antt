@@ -1,0 +1,5 @@
+pub mod Stores
+pub mod Reading
+pub mod Holdings
+pub mod Returns
+pub mod Endings
