@@ -83,6 +83,14 @@ pub data Point : Type 0 where
   at_file : (file : ℕ) → Point
   at_time : (time : ℕ) → Point
 
+-- a restore that is under way: its number, the point that was asked for, the position that this comes to, and whether all lanes were
+-- prepared for it
+pub record Active : Type 0 where
+  pub number : ℕ
+  pub point : Point
+  pub to : ℕ
+  pub prepared : Bool
+
 abbrev pub find_point : Point → List Span → Found
 find_point at_end spans = at_position (end_of spans)
 find_point (at_file file) spans = end_of_file file spans

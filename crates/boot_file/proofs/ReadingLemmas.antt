@@ -9,7 +9,8 @@ use Rattle.std.proofs.lemmas.Grind.{flat_map-append}
 use Rattle.backup_lines.specs.Lines.{Line}
 use Rattle.boot_lines.specs.LineLayout.{IsLine, spelling}
 use Rattle.boot_lines.specs.LineLaws.{fills_slot, length-spellings}
-use Rattle.boot_lines.specs.MarkLayout.{Active, IsMark, active_in, spelling as mark_spelling}
+use Rattle.backup_lines.specs.Spans.{Active}
+use Rattle.boot_lines.specs.MarkLayout.{IsMark, active_in, spelling as mark_spelling}
 use Rattle.boot_lines.specs.declared.mark.BootMark.{BootMark}
 use Rattle.site_disk.specs.Bytes.{extent}
 use Rattle.site_disk.specs.BytesLaws.{extent-extent, extent-add}

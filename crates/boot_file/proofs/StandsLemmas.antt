@@ -8,7 +8,8 @@ use Rattle.backup_lines.specs.Views.{line_of}
 use Rattle.backup_lines.specs.declared.lines.Line.{Line as RustLine}
 use Rattle.boot_lines.specs.LineLayout.{IsLine, lines_of, spelling}
 use Rattle.boot_lines.specs.LineLaws.{length-spellings}
-use Rattle.boot_lines.specs.MarkLayout.{Active, IsMark, active_in, spelling as mark_spelling}
+use Rattle.backup_lines.specs.Spans.{Active}
+use Rattle.boot_lines.specs.MarkLayout.{IsMark, active_in, spelling as mark_spelling}
 use Rattle.boot_lines.specs.declared.mark.BootMark.{BootMark}
 use Rattle.site_disk.specs.Bytes.{extent}
 use Rattle.site_disk.specs.Images.{Seen, Leaves, OnlyAfter}

@@ -1,7 +1,7 @@
 -- What the calls of the boot file answer.
 use Rattle.std.specs.Prelude.{◌≡◌, ◌⊎◌, ℕ, ◌+◌, ◌-◌, ◌^◌, ◌<◌, ◌≤◌, min, List, length, Option}
 use Rattle.backup_lines.specs.Lines.{Line}
-use Rattle.boot_lines.specs.MarkLayout.{Active}
+use Rattle.backup_lines.specs.Spans.{Active}
 use Rattle.site_disk.specs.Causes.{Rose}
 use Rattle.gated_slots.specs.Slots.{used}
 use Rattle.site_headers.specs.Headers.{HasHeader}

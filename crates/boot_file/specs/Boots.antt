@@ -3,7 +3,8 @@ use Rattle.std.specs.Prelude.{◌≡◌, ℕ, List, length, Option}
 use Rattle.std.specs.List.{AllByRecursion}
 use Rattle.backup_lines.specs.Lines.{Line}
 use Rattle.boot_lines.specs.LineLayout.{IsLine, lines_of}
-use Rattle.boot_lines.specs.MarkLayout.{Active, IsMark, active_in}
+use Rattle.backup_lines.specs.Spans.{Active}
+use Rattle.boot_lines.specs.MarkLayout.{IsMark, active_in}
 use Rattle.site_disk.specs.Images.{Seen, IsSynced}
 use Rattle.twin_mark.specs.Marks.{Knows}
 use Rattle.boot_file.specs.Places.{lines_area, HoldsBoot}

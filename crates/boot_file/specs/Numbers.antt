@@ -1,6 +1,7 @@
 -- The numbers of restores.
 use Rattle.std.specs.Prelude.{◌≡◌, ◌⊎◌, ℕ, ◌+◌, Option, None, Some, IsSomeAnd}
-use Rattle.boot_lines.specs.MarkLayout.{Active, IsGoal}
+use Rattle.backup_lines.specs.Spans.{Active}
+use Rattle.boot_lines.specs.MarkLayout.{IsGoal}
 
 -- the number of the last restore, once this one is the active one, or none is
 abbrev pub number_after : ℕ → Option Active → ℕ

@@ -3,7 +3,8 @@ use Rattle.std.specs.Prelude.{◌≡◌, ◌⊎◌, ℕ, ◌+◌, ◌*◌, ◌<�
 use Rattle.std.specs.List.{AllByRecursion, flat_map}
 use Rattle.backup_lines.specs.Lines.{Line}
 use Rattle.boot_lines.specs.LineLayout.{IsLine, spelling}
-use Rattle.boot_lines.specs.MarkLayout.{Active, IsMark, spelling as mark_spelling}
+use Rattle.backup_lines.specs.Spans.{Active}
+use Rattle.boot_lines.specs.MarkLayout.{IsMark, spelling as mark_spelling}
 use Rattle.site_disk.specs.Bytes.{extent}
 use Rattle.gated_slots.specs.Slots.{Area, used, held, place_of}
 use Rattle.twin_mark.specs.Marks.{record_at}

@@ -9,7 +9,8 @@ use Rattle.std.proofs.lemmas.Option.{same_Some}
 use Rattle.backup_lines.specs.Lines.{Line}
 use Rattle.boot_lines.specs.LineLayout.{IsLine, spelling}
 use Rattle.boot_lines.specs.LineLaws.{one_line, fills_slot, length-spellings}
-use Rattle.boot_lines.specs.MarkLayout.{Active, IsMark, spelling as mark_spelling}
+use Rattle.backup_lines.specs.Spans.{Active}
+use Rattle.boot_lines.specs.MarkLayout.{IsMark, spelling as mark_spelling}
 use Rattle.boot_lines.specs.MarkLaws.{one_record}
 use Rattle.site_disk.specs.Bytes.{extent, Elsewhere}
 use Rattle.gated_slots.specs.Slots.{used, held, OutsideArea, Keeps, Gains, MayGain}

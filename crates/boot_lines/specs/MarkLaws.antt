@@ -4,8 +4,8 @@ use Rattle.std.proofs.Common.{arith, ap, sym, ◌∙◌}
 use Rattle.std.specs.Int.{w64}
 use Rattle.std.proofs.lemmas.Nat.{from_be_bytes-to_be_bytes_8}
 use Rattle.byte_fields.specs.Fields.{number_at}
-use Rattle.backup_lines.specs.Spans.{Point, at_end, at_file, at_time}
-use Rattle.boot_lines.specs.MarkLayout.{Active, IsMark, point_number, active_bytes, spelling, point_at, active_at}
+use Rattle.backup_lines.specs.Spans.{Active, Point, at_end, at_file, at_time}
+use Rattle.boot_lines.specs.MarkLayout.{IsMark, point_number, active_bytes, spelling, point_at, active_at}
 
 small : (n : ℕ) → n ≤ 2 ^ 48 → n < 2 ^ 64
 small n le = omega (arith, le)

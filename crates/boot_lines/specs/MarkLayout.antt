@@ -3,17 +3,9 @@ use Rattle.std.specs.Prelude.{◌≡◌, ℕ, ◌^◌, ◌==◌, ◌||◌, ◌�
 use Rattle.std.specs.Option.{option_map}
 use Rattle.std.specs.Int.{w64, to_be_bytes}
 use Rattle.byte_fields.specs.Fields.{number_at}
-use Rattle.backup_lines.specs.Spans.{Point, at_end, at_file, at_time}
+use Rattle.backup_lines.specs.Spans.{Active, Point, at_end, at_file, at_time}
 use Rattle.backup_lines.specs.Views.{point_of}
 use Rattle.backup_lines.specs.declared.points.Restore.{Restore}
-
--- a restore that is under way: its number, the point that was asked for, the position that this comes to, and whether all lanes were
--- prepared for it
-pub record Active : Type 0 where
-  pub number : ℕ
-  pub point : Point
-  pub to : ℕ
-  pub prepared : Bool
 
 abbrev pub active_of : Restore → Active
 active_of restore = record { number = restore.number; point = point_of restore.point; to = restore.to; prepared = restore.prepared }

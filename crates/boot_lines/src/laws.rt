@@ -2,7 +2,8 @@
 ghost use Rattle.std.specs.Prelude.{◌≡◌, ℕ, Option, length};
 ghost use Rattle.backup_lines.specs.Lines.{Line};
 ghost use Rattle.boot_lines.specs.LineLayout.{IsLine, spelling};
-ghost use Rattle.boot_lines.specs.MarkLayout.{Active, IsMark, spelling as mark_spelling};
+ghost use Rattle.backup_lines.specs.Spans.{Active};
+ghost use Rattle.boot_lines.specs.MarkLayout.{IsMark, spelling as mark_spelling};
 
 /// Each line's bytes are 128.
 #[tactic(auto, using(crate::specs::LineLaws::fills_slot))]

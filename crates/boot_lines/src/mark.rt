@@ -2,7 +2,8 @@
 ghost use Rattle.std.specs.Prelude.{◌≡◌, ◌↔◌, ◌≤◌, ◌++◌, ℕ, length, Option, IsTrue, IfSome, IsSomeAnd};
 ghost use Rattle.std.specs.Int.{w64, to_be_bytes};
 ghost use Rattle.backup_lines.specs.Views.{point_of};
-ghost use Rattle.boot_lines.specs.MarkLayout.{Active, IsMark, IsGoal, active_of, active_in, point_code, point_number, state_code, active_bytes, spelling, point_at, active_at};
+ghost use Rattle.backup_lines.specs.Spans.{Active};
+ghost use Rattle.boot_lines.specs.MarkLayout.{IsMark, IsGoal, active_of, active_in, point_code, point_number, state_code, active_bytes, spelling, point_at, active_at};
 
 use backup_lines::{Point, Restore};
 use byte_fields::{u64_at, write_bytes, write_zeros_from};

@@ -10,7 +10,8 @@ use Rattle.log_history.specs.History.{LogEntry, History}
 use Rattle.log_history.specs.Transactions.{InOrder, table_of, low, low_of}
 use Rattle.walks.specs.Courses.{after_all, for_each}
 use Rattle.walks.specs.CoursesLaws.{after_all-append}
-use Rattle.site_worlds.specs.Worlds.{Ring, Active, LaneState, Site, stands, blank, merges, replays, stale, lost}
+use Rattle.backup_lines.specs.Spans.{Active}
+use Rattle.site_worlds.specs.Worlds.{Ring, LaneState, Site, stands, blank, merges, replays, stale, lost}
 use Rattle.site_worlds.specs.Files.{first_of_file, last_of_file, HasRecords}
 use Rattle.site_worlds.specs.Lanes.{IsAtRest, IsAtEnd}
 use Rattle.site_worlds.specs.Fitness.{IsWithin, FitRing, FitStep, AreAtRest, IsFitSite}

@@ -6,12 +6,12 @@ use Rattle.std.proofs.lemmas.List.Sums.{prefix_len-le-length}
 use Rattle.log_history.specs.History.{History}
 use Rattle.log_history.specs.Live.{reset_points}
 use Rattle.backup_lines.specs.Lines.{Archive, live_archives}
-use Rattle.backup_lines.specs.Spans.{Point, at_end, at_file, at_time, is_by}
+use Rattle.backup_lines.specs.Spans.{Active, Point, at_end, at_file, at_time, is_by}
 use Rattle.backup_lines.specs.Chains.{chain_of}
 use Rattle.walks.specs.Courses.{make, after_all}
 use Rattle.site_headers.specs.Heads.{Head}
 use Rattle.onbar_grammar.specs.Script.{Space}
-use Rattle.site_worlds.specs.Worlds.{Ring, Active, Site}
+use Rattle.site_worlds.specs.Worlds.{Ring, Site}
 use Rattle.site_worlds.specs.Files.{IsEmptyAtEnd, IsSaved}
 use Rattle.site_worlds.specs.Fitness.{FitFiles, IsFitSite}
 use Rattle.site_worlds.specs.Moves.{Move, begin_restore, with_prepared, site_after, site_rules}

@@ -4,9 +4,9 @@ use Rattle.std.proofs.Common.{refl, sym, subst}
 use Rattle.walks.specs.Courses.{IsOnWay, after_all}
 use Rattle.site_worlds.specs.Fitness.{IsFitSite}
 use Rattle.site_worlds.specs.Moves.{site_rules}
-use Rattle.site_worlds.specs.Worlds.{Active, Site}
+use Rattle.site_worlds.specs.Worlds.{Site}
 use Rattle.world_laws.specs.KeptLaws.{fit_on_way}
-use Rattle.backup_lines.specs.Spans.{Point}
+use Rattle.backup_lines.specs.Spans.{Active, Point}
 use Rattle.site_courses.specs.Plans.{position_of}
 use Rattle.site_courses.specs.Restores.{restart_of, restart_course, restore_course}
 use Rattle.site_stories.specs.Restarts.{IsRestart, IsTurn, AreTurns, restarts}

@@ -8,7 +8,8 @@ use Rattle.std.proofs.Common.{arith, refl, sym, ap, subst, ◌∙◌}
 use Rattle.std.proofs.lemmas.Bool.{false≢true, true≢false}
 use Rattle.std.proofs.lemmas.Bool.Decides.{nat_tests}
 use Rattle.walks.specs.Courses.{only, make}
-use Rattle.site_worlds.specs.Worlds.{Ring, Active, LaneState, Site, stands, blank, merges, replays, stale, lost}
+use Rattle.backup_lines.specs.Spans.{Active}
+use Rattle.site_worlds.specs.Worlds.{Ring, LaneState, Site, stands, blank, merges, replays, stale, lost}
 use Rattle.site_worlds.specs.Files.{EndsInReset}
 use Rattle.site_worlds.specs.Lanes.{IsOnTheWay, EachLane}
 use Rattle.site_worlds.specs.Moves.{with_prepared, ring_from, move_lanes, site_rules}

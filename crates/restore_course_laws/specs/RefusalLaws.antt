@@ -4,7 +4,8 @@ use Rattle.std.specs.Option.{option_or}
 use Rattle.std.proofs.Common.{refl, sym, ap, subst, ◌∙◌}
 use Rattle.walks.specs.Courses.{Course, unless_fault, after_all, only, behind_moves, then_do}
 use Rattle.walks.specs.CoursesLaws.{then_next}
-use Rattle.site_worlds.specs.Worlds.{Active, Site}
+use Rattle.backup_lines.specs.Spans.{Active}
+use Rattle.site_worlds.specs.Worlds.{Site}
 use Rattle.site_worlds.specs.Fitness.{IsFitSite}
 use Rattle.site_worlds.specs.Moves.{Move, site_rules}
 use Rattle.world_laws.specs.ListLaws.{none_some}

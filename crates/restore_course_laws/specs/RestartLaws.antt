@@ -9,7 +9,8 @@ use Rattle.std.proofs.lemmas.List.{length-map}
 use Rattle.std.proofs.lemmas.List.Elements.{filter-append}
 use Rattle.log_history.specs.History.{LogEntry, begin, write, commit, abort, reset, entry_at}
 use Rattle.log_history.specs.Live.{ResetPoint, reset_points}
-use Rattle.site_worlds.specs.Worlds.{Active, LaneState, Site, stands, blank, merges, replays, stale, lost}
+use Rattle.backup_lines.specs.Spans.{Active}
+use Rattle.site_worlds.specs.Worlds.{LaneState, Site, stands, blank, merges, replays, stale, lost}
 use Rattle.site_worlds.specs.Files.{EndsInReset}
 use Rattle.site_worlds.specs.Fitness.{FitStep, AreInStep, IsFinishing, IsFitSite}
 use Rattle.site_worlds.specs.Moves.{with_prepared}

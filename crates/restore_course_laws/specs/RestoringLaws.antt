@@ -9,7 +9,8 @@ use Rattle.std.proofs.lemmas.Bool.Decides.{nat_tests}
 use Rattle.log_history.specs.History.{reset, entry_at}
 use Rattle.log_history.specs.Transactions.{last_time}
 use Rattle.walks.specs.Courses.{after_all, make}
-use Rattle.site_worlds.specs.Worlds.{Ring, Active, LaneState, Site, stands, blank, merges, replays, stale, lost}
+use Rattle.backup_lines.specs.Spans.{Active}
+use Rattle.site_worlds.specs.Worlds.{Ring, LaneState, Site, stands, blank, merges, replays, stale, lost}
 use Rattle.site_worlds.specs.Files.{first_of_file, HasRecords, IsEmptyAtEnd, IsSaved, EndsInReset}
 use Rattle.site_worlds.specs.Lanes.{IsReplayed, IsAtEnd, EachLane}
 use Rattle.site_worlds.specs.Fitness.{FitRing}

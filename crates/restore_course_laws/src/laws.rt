@@ -1,10 +1,10 @@
 //! The laws, each as the contract of a function.
 ghost use Rattle.std.specs.Prelude.{◌≡◌, ◌<◌, ◌^◌, [], List, None, Some, false, suc, ℕ};
-ghost use Rattle.backup_lines.specs.Spans.{Point};
+ghost use Rattle.backup_lines.specs.Spans.{Active, Point};
 ghost use Rattle.walks.specs.Courses.{IsOnWay, after_all};
 ghost use Rattle.site_worlds.specs.Fitness.{IsFitSite};
 ghost use Rattle.site_worlds.specs.Moves.{site_rules};
-ghost use Rattle.site_worlds.specs.Worlds.{Active, Site};
+ghost use Rattle.site_worlds.specs.Worlds.{Site};
 ghost use Rattle.site_courses.specs.Faults.{Fault};
 ghost use Rattle.site_courses.specs.Plans.{position_of};
 ghost use Rattle.site_courses.specs.Restores.{restart_course, restore_course};

@@ -9,7 +9,8 @@ pub data LogFull : Type 0 where
   needed_by : (file txn : ℕ) → LogFull
   no_position : (end : ℕ) → LogFull
 
--- The refusals, in the order in which they come; and a call that is cut short, which may stop anywhere.
+-- The refusals, in the order in which they come; a record that isn't in the grammar, which no course has, so that it never comes where
+-- the disks show a fit site; and a call that is cut short, which may stop anywhere.
 pub data Fault : Type 0 where
   not_formatted : Fault
   already_formatted : Fault
@@ -28,6 +29,7 @@ pub data Fault : Type 0 where
   catalogue_full : Fault
   boot_full : Fault
   script_fault : (line : ℕ) (why : Why) → Fault
+  bad_record : Fault
   cut_short : Fault
 
 abbrev pub cuts : Fault → Bool

@@ -2,9 +2,9 @@
 use Rattle.std.specs.Prelude.{ℕ, suc, ◌^◌, ◌==◌, max, List, [], ◌∷◌, ◌++◌, length, Bool, true, false, ◌&&◌, nat_lt, nat_le, if◌then◌else◌, Option, None, Some}
 use Rattle.log_history.specs.History.{LogEntry, reset, entry_at}
 use Rattle.log_history.specs.Transactions.{last_time}
-use Rattle.backup_lines.specs.Spans.{Point}
+use Rattle.backup_lines.specs.Spans.{Active, Point}
 use Rattle.walks.specs.Courses.{only, make}
-use Rattle.site_worlds.specs.Worlds.{Ring, Active, LaneState, Site, stands, blank, merges, replays}
+use Rattle.site_worlds.specs.Worlds.{Ring, LaneState, Site, stands, blank, merges, replays}
 use Rattle.site_worlds.specs.Files.{first_of_file}
 use Rattle.site_worlds.specs.Moves.{Move, append_reset, drop_oldest, next_file, format_log, begin_restore, set_prepared, end_restore, move_lanes}
 use Rattle.site_courses.specs.Faults.{Fault, nothing_to_restart, log_full, no_position, boot_full}

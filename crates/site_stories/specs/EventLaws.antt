@@ -7,7 +7,8 @@ use Rattle.log_history.specs.History.{History, reset, entry_at}
 use Rattle.onbar_grammar.specs.Script.{Space}
 use Rattle.site_headers.specs.Heads.{Head}
 use Rattle.backup_lines.specs.Lines.{Archive, Span, Line, archived, logged, gone}
-use Rattle.site_worlds.specs.Worlds.{Store, Ring, Active, LaneState, Site, stands, blank, merges, replays, stale, lost}
+use Rattle.backup_lines.specs.Spans.{Active}
+use Rattle.site_worlds.specs.Worlds.{Store, Ring, LaneState, Site, stands, blank, merges, replays, stale, lost}
 use Rattle.site_worlds.specs.Files.{first_of_file, Agrees, IsLogged, last_logged}
 use Rattle.site_worlds.specs.Lanes.{pages_of_space, FitLane, EachLane}
 use Rattle.site_worlds.specs.Fitness.{IsBriefBack, FitHistory, FitFiles, FitActive, FitLine, FitLines, IsFitSite}

@@ -11,9 +11,9 @@ use Rattle.log_history.specs.Transactions.{InOrder, InOrderBack, MayFollow}
 use Rattle.log_history.specs.Effects.{page_at}
 use Rattle.history_laws.specs.EffectiveLaws.{entry_at_back, entry_back}
 use Rattle.history_laws.specs.PagesLaws.{page_at_reset, page_before}
-use Rattle.backup_lines.specs.Spans.{Point}
+use Rattle.backup_lines.specs.Spans.{Active, Point}
 use Rattle.walks.specs.Courses.{after_all, IsOnWay}
-use Rattle.site_worlds.specs.Worlds.{Active, Site, stands}
+use Rattle.site_worlds.specs.Worlds.{Site, stands}
 use Rattle.site_worlds.specs.Files.{last_logged}
 use Rattle.site_worlds.specs.Fitness.{IsFitSite}
 use Rattle.site_worlds.specs.Moves.{Move, append_batch, append_reset, close_file, drop_oldest, next_file, mark_backed, format_log, commit_objects, append_lines, begin_restore, set_prepared, end_restore, move_lanes, with_prepared, site_after, StopsAt, site_rules}

@@ -4,7 +4,8 @@ use Rattle.std.specs.List.{AllByRecursion}
 use Rattle.log_history.specs.History.{History, reset, entry_at}
 use Rattle.backup_lines.specs.Lines.{Line, gone}
 use Rattle.walks.specs.Courses.{IsOnWay}
-use Rattle.site_worlds.specs.Worlds.{Active, LaneState, Site, stands, blank, replays}
+use Rattle.backup_lines.specs.Spans.{Active}
+use Rattle.site_worlds.specs.Worlds.{LaneState, Site, stands, blank, replays}
 use Rattle.site_worlds.specs.Files.{EndsInReset}
 use Rattle.site_worlds.specs.Lanes.{EachLane}
 use Rattle.site_worlds.specs.Fitness.{IsFitSite}

@@ -7,7 +7,8 @@ use Rattle.log_history.specs.Transactions.{InOrder, last_time, low}
 use Rattle.block_chain.specs.Blocks.{times, AreSound}
 use Rattle.backup_lines.specs.Lines.{Span, Line, logged, live_archives}
 use Rattle.backup_lines.specs.Chains.{chain_of}
-use Rattle.site_worlds.specs.Worlds.{Kept, Ring, Active, LaneState, Site, stands, blank, merges, replays, lost}
+use Rattle.backup_lines.specs.Spans.{Active}
+use Rattle.site_worlds.specs.Worlds.{Kept, Ring, LaneState, Site, stands, blank, merges, replays, lost}
 use Rattle.site_worlds.specs.Files.{first_of_file, HasRecords, IsEmptyAtEnd, IsLogged, last_logged, IsSaved, EndsInReset}
 use Rattle.site_worlds.specs.Objects.{IsKept, blocks_on}
 use Rattle.site_worlds.specs.Lanes.{IsAtEnd, IsReplayed, IsOnTheWay}

@@ -3,7 +3,8 @@ use Rattle.std.specs.Prelude.{◌≡◌, ℕ, zero, suc, ◌+◌, ◌-◌, ◌<�
 use Rattle.log_history.specs.History.{LogEntry, History, reset, entry_at}
 use Rattle.log_history.specs.Transactions.{last_time, low}
 use Rattle.backup_lines.specs.Lines.{Span, Line, archived, logged, gone}
-use Rattle.site_worlds.specs.Worlds.{Ring, Active}
+use Rattle.backup_lines.specs.Spans.{Active}
+use Rattle.site_worlds.specs.Worlds.{Ring}
 
 abbrev pub first_from : List ℕ → ℕ → ℕ → ℕ
 first_from [] end n = suc end

@@ -9,7 +9,8 @@ use Rattle.onbar_grammar.specs.Script.{Space}
 use Rattle.site_headers.specs.Heads.{Head, IsHead}
 use Rattle.block_chain.specs.Blocks.{times, AreSound}
 use Rattle.backup_lines.specs.Lines.{Archive, Span, Line, archived, logged, gone}
-use Rattle.site_worlds.specs.Worlds.{Kept, Store, Ring, Active, LaneState, Site, World, unformatted, formatted}
+use Rattle.backup_lines.specs.Spans.{Active}
+use Rattle.site_worlds.specs.Worlds.{Kept, Store, Ring, LaneState, Site, World, unformatted, formatted}
 use Rattle.site_worlds.specs.Files.{first_of_file, HasRecords, low_at, Agrees, IsLogged, last_logged, IsSaved, EndsInReset}
 use Rattle.site_worlds.specs.Objects.{archive_bytes, log_bytes, IsKept, blocks_on, Holds}
 use Rattle.site_worlds.specs.Lanes.{pages_of_space, FitLane, IsAtRest, IsOnTheWay, IsReplayed, IsAtEnd, EachLane}

@@ -4,7 +4,8 @@ use Rattle.log_history.specs.History.{History}
 use Rattle.lane_ways.specs.Ways.{IsPlace}
 use Rattle.onbar_grammar.specs.Script.{Space}
 use Rattle.backup_lines.specs.Lines.{Archive, Line, archived}
-use Rattle.site_worlds.specs.Worlds.{Active, LaneState, stands, blank, merges, replays, stale, lost}
+use Rattle.backup_lines.specs.Spans.{Active}
+use Rattle.site_worlds.specs.Worlds.{LaneState, stands, blank, merges, replays, stale, lost}
 use Rattle.site_worlds.specs.Files.{low_at}
 use Rattle.site_worlds.specs.Objects.{entries_in}
 

@@ -6,10 +6,10 @@ use mathlib.Core.Logic.{inl}
 use Rattle.log_history.specs.History.{LogEntry, reset}
 use Rattle.site_headers.specs.Heads.{Head}
 use Rattle.backup_lines.specs.Lines.{Line}
-use Rattle.backup_lines.specs.Spans.{Point}
+use Rattle.backup_lines.specs.Spans.{Active, Point}
 use Rattle.catalogue_slots.specs.Records.{slots_for}
 use Rattle.walks.specs.Courses.{MoveRules}
-use Rattle.site_worlds.specs.Worlds.{Kept, Store, Ring, Active, LaneState, Site, World, stands, blank, merges, replays, stale, lost, unformatted, formatted, new_site}
+use Rattle.site_worlds.specs.Worlds.{Kept, Store, Ring, LaneState, Site, World, stands, blank, merges, replays, stale, lost, unformatted, formatted, new_site}
 use Rattle.lane_ways.specs.Ways.{IsPlace, IsNotBefore}
 use Rattle.site_worlds.specs.Lanes.{FitMerge, FitReplay}
 

@@ -4,7 +4,7 @@ use Rattle.log_history.specs.History.{History}
 use Rattle.site_headers.specs.Heads.{Head}
 use Rattle.catalogue_slots.specs.Records.{Object}
 use Rattle.backup_lines.specs.Lines.{Line}
-use Rattle.backup_lines.specs.Spans.{Point}
+use Rattle.backup_lines.specs.Spans.{Active}
 
 -- a live object of the store, and the bytes that were sent for it
 pub record Kept : Type 0 where
@@ -25,14 +25,6 @@ pub record Ring : Type 0 where
   pub oldest : ℕ
   pub is_open : Bool
   pub backed : ℕ
-
--- a restore that is under way: its number, the point that was asked for, the position that this comes to, and whether all lanes were
--- prepared for it
-pub record Active : Type 0 where
-  pub number : ℕ
-  pub point : Point
-  pub to : ℕ
-  pub prepared : Bool
 
 -- How far the chunk of a space is:
 --   with the commits in effect up to a position, and of the next one that writes into the space the first so many Writes;

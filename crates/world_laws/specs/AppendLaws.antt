@@ -11,7 +11,8 @@ use Rattle.log_history.specs.Transactions.{InOrder, table_back, low, low_of}
 use Rattle.onbar_grammar.specs.Script.{Space}
 use Rattle.history_laws.specs.LiveLaws.{live_within}
 use Rattle.backup_lines.specs.Lines.{Line}
-use Rattle.site_worlds.specs.Worlds.{Ring, Active, LaneState, Site, stands, blank, merges, replays, stale, lost}
+use Rattle.backup_lines.specs.Spans.{Active}
+use Rattle.site_worlds.specs.Worlds.{Ring, LaneState, Site, stands, blank, merges, replays, stale, lost}
 use Rattle.site_worlds.specs.Files.{first_of_file}
 use Rattle.site_worlds.specs.Lanes.{FitLane, IsAtRest, EachLane}
 use Rattle.site_worlds.specs.Fitness.{IsWithin, IsBriefBack, FitHistory, FitRing, FitFiles, FitStep, AreAtRest, IsFitSite}

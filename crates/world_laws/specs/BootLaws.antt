@@ -13,8 +13,8 @@ use Rattle.log_history.specs.Transactions.{after, table_back, low_of, low}
 use Rattle.history_laws.specs.EffectiveLaws.{entry_at_back, entry_back}
 use Rattle.onbar_grammar.specs.Script.{Space}
 use Rattle.backup_lines.specs.Lines.{Archive, Line, archived, logged}
-use Rattle.backup_lines.specs.Spans.{Point}
-use Rattle.site_worlds.specs.Worlds.{Ring, Active, LaneState, Site, stands, blank, merges, replays, stale, lost}
+use Rattle.backup_lines.specs.Spans.{Active, Point}
+use Rattle.site_worlds.specs.Worlds.{Ring, LaneState, Site, stands, blank, merges, replays, stale, lost}
 use Rattle.site_worlds.specs.Files.{first_of_file, IsSaved, EndsInReset, last_logged}
 use Rattle.lane_ways.specs.Ways.{IsPlace}
 use Rattle.site_worlds.specs.Lanes.{IsArchived, IsChain, FitLane, IsAtEnd, IsOnTheWay, EachLane}

@@ -12,7 +12,8 @@ use Rattle.log_history.specs.Transactions.{low}
 use Rattle.history_laws.specs.LiveLaws.{live_within}
 use Rattle.backup_lines.specs.Lines.{Archive, Line, archived, logged, gone, archive_in, is_live, live_archives}
 use Rattle.backup_lines.specs.Chains.{is_link, is_later, last_link, and_on, chain_of}
-use Rattle.site_worlds.specs.Worlds.{Active, LaneState, Site, stands, blank, merges, replays, stale, lost}
+use Rattle.backup_lines.specs.Spans.{Active}
+use Rattle.site_worlds.specs.Worlds.{LaneState, Site, stands, blank, merges, replays, stale, lost}
 use Rattle.site_worlds.specs.Files.{low_at}
 use Rattle.lane_ways.specs.Ways.{IsPlace}
 use Rattle.site_worlds.specs.Lanes.{IsArchived, IsChain, FitReplay, FitLane, IsAtRest, IsOnTheWay}

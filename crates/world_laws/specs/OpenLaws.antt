@@ -9,7 +9,8 @@ use Rattle.log_history.specs.History.{History}
 use Rattle.log_history.specs.Transactions.{low}
 use Rattle.onbar_grammar.specs.Script.{Space}
 use Rattle.backup_lines.specs.Lines.{Span, logged}
-use Rattle.site_worlds.specs.Worlds.{Ring, Active, LaneState, Site}
+use Rattle.backup_lines.specs.Spans.{Active}
+use Rattle.site_worlds.specs.Worlds.{Ring, LaneState, Site}
 use Rattle.site_worlds.specs.Files.{first_of_file, HasRecords, IsEmptyAtEnd, IsLogged, IsSaved, EndsInReset}
 use Rattle.site_worlds.specs.Lanes.{IsAtRest}
 use Rattle.site_worlds.specs.Fitness.{FitHistory, FitRing, FitLost, FitFiles, FitActive, FitStep, IsFitSite}

@@ -5,7 +5,8 @@ use mathlib.Core.Logic.{inl, inr}
 use Rattle.std.proofs.Common.{refl, sym, ap, subst, ◌∙◌, ⊎_elim}
 use Rattle.std.proofs.lemmas.Bool.{true≢false}
 use Rattle.log_history.specs.Transactions.{low}
-use Rattle.site_worlds.specs.Worlds.{Ring, Active, LaneState, Site}
+use Rattle.backup_lines.specs.Spans.{Active}
+use Rattle.site_worlds.specs.Worlds.{Ring, LaneState, Site}
 use Rattle.site_worlds.specs.Files.{first_of_file, EndsInReset}
 use Rattle.site_worlds.specs.Lanes.{IsAtRest, IsOnTheWay, EachLane}
 use Rattle.site_worlds.specs.Fitness.{FitStep, IsFinishing, IsFitSite}

@@ -10,7 +10,8 @@ use Rattle.log_history.specs.History.{LogEntry, History, reset, entry_at}
 use Rattle.log_history.specs.Transactions.{InOrder, InOrderBack, last_time_back}
 use Rattle.onbar_grammar.specs.Script.{Space}
 use Rattle.backup_lines.specs.Lines.{Line}
-use Rattle.site_worlds.specs.Worlds.{Ring, Active, LaneState, Site, stands, blank, merges, replays, stale, lost}
+use Rattle.backup_lines.specs.Spans.{Active}
+use Rattle.site_worlds.specs.Worlds.{Ring, LaneState, Site, stands, blank, merges, replays, stale, lost}
 use Rattle.site_worlds.specs.Files.{first_of_file, EndsInReset, target_of}
 use Rattle.site_worlds.specs.Lanes.{FitLane, IsReplayed, EachLane}
 use Rattle.site_worlds.specs.Fitness.{IsBriefBack, FitRing, FitFiles, FitSaved, FitActive, FitStep, IsFinishing, IsFitSite}

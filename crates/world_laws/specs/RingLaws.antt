@@ -7,7 +7,8 @@ use Rattle.std.proofs.Common.{arith, refl, sym, ap, subst, ◌∙◌, ⊎_elim, 
 use Rattle.std.proofs.lemmas.Bool.{cases_order, false≢true}
 use Rattle.log_history.specs.History.{History}
 use Rattle.log_history.specs.Transactions.{low}
-use Rattle.site_worlds.specs.Worlds.{Ring, Active, LaneState, Site, stands, blank, merges, replays, stale, lost}
+use Rattle.backup_lines.specs.Spans.{Active}
+use Rattle.site_worlds.specs.Worlds.{Ring, LaneState, Site, stands, blank, merges, replays, stale, lost}
 use Rattle.site_worlds.specs.Files.{first_of_file, IsLogged, IsSaved, EndsInReset}
 use Rattle.site_worlds.specs.Lanes.{IsAtRest, IsAtEnd}
 use Rattle.site_worlds.specs.Fitness.{FitRing, FitFiles, FitSaved, FitActive, AreAtRest, FitStep, IsFitSite}

@@ -1,7 +1,8 @@
 use Rattle.std.proofs.Common.{◌≡◌, ◌∙◌, ℕ, List, Option, Some, ap, sym, subst, refl}
 use Rattle.std.specs.Prelude.{Result, IfOk, IfErr, IsErrOf}
 use Rattle.boot_lines.specs.declared.mark.BootMark.{BootMark}
-use Rattle.boot_lines.specs.MarkLayout.{Active, active_in}
+use Rattle.backup_lines.specs.Spans.{Active}
+use Rattle.boot_lines.specs.MarkLayout.{active_in}
 use Rattle.twin_mark.specs.Marks.{record_at}
 use Rattle.twin_mark.specs.declared.mark.MarkFault.TheVariants.{NoMark}
 use Rattle.boot_file.specs.Places.{HoldsMark}

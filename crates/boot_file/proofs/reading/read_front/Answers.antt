@@ -2,7 +2,7 @@ use Rattle.std.proofs.Common.{◌≡◌, ℕ, List, Option, subst, sym, refl, in
 use Rattle.std.specs.Prelude.{IfErr}
 use Rattle.std.proofs.lemmas.Bool.{both_ways}
 use Rattle.site_headers.specs.Headers.{HasHeader}
-use Rattle.boot_lines.specs.MarkLayout.{Active}
+use Rattle.backup_lines.specs.Spans.{Active}
 use Rattle.boot_file.specs.Places.{boot_tail, HoldsMark}
 use Rattle.boot_file.specs.Answers.{no_slot, IsRefusal, IsBadBoot}
 use Rattle.boot_file.specs.declared.faults.BootFault.{BootFault}

@@ -3,7 +3,8 @@ use Rattle.std.specs.Option.{option_copied}
 use Rattle.site_disk.specs.Images.{Leaves}
 use Rattle.site_disk.specs.Seen.{seen}
 use Rattle.twin_mark.specs.Marks.{MayStore, Stores}
-use Rattle.boot_lines.specs.MarkLayout.{Active, IsMark, active_in, spelling as mark_spelling}
+use Rattle.backup_lines.specs.Spans.{Active}
+use Rattle.boot_lines.specs.MarkLayout.{IsMark, active_in, spelling as mark_spelling}
 use Rattle.boot_file.specs.Numbers.{number_after}
 use Rattle.boot_file.specs.Places.{HoldsBoot}
 use Rattle.boot_file.specs.PlacesLaws.{boot_stored}

@@ -5,7 +5,8 @@ use Rattle.std.proofs.lemmas.Slice.Eq.{bytes_eq-Decides}
 use Rattle.std.proofs.lemmas.Bool.{both_ways}
 use Rattle.byte_fields.specs.Fields.{number_at}
 use Rattle.boot_lines.specs.declared.mark.BootMark.{BootMark}
-use Rattle.boot_lines.specs.MarkLayout.{Active, IsMark, active_in, active_at, spelling}
+use Rattle.backup_lines.specs.Spans.{Active}
+use Rattle.boot_lines.specs.MarkLayout.{IsMark, active_in, active_at, spelling}
 use Rattle.boot_lines.specs.MarkLaws.{number_at-spelling, active_at-spelling}
 use Rattle.boot_lines.proofs.mark.BootMark.decode.Goals as goal
 

@@ -1,6 +1,7 @@
 use Rattle.std.proofs.Common.{◌≡◌, ℕ, ◌+◌, ◌-◌, List, length, take, ◌++◌, replicate, Option, arith, ap, sym, ◌∙◌}
 use Rattle.std.specs.Int.{w64, to_be_bytes}
-use Rattle.boot_lines.specs.MarkLayout.{Active, active_in, active_bytes, spelling}
+use Rattle.backup_lines.specs.Spans.{Active}
+use Rattle.boot_lines.specs.MarkLayout.{active_in, active_bytes, spelling}
 use Rattle.boot_lines.proofs.mark.BootMark.encode_into.Goals as goal
 
 by_parts : (number : ℕ) (active : Option Active) (one two new n a : List ℕ) → n ≡ to_be_bytes w64 number → a ≡ active_bytes active → length n ≡ 8 → length a ≡ 24 → length two ≡ 255
