@@ -108,6 +108,7 @@ impl<D: Disk> Catalogue<D> {
 
         ensures made { IsMade self.new }
         ensures journal { IsTrue D.is_modelled → OnOk result (Journals (area_of (capacity_of self.old)) empty (D.bytes (cat_of self.new))) }
+        ensures none { IsTrue D.is_modelled → OnOk result (used (area_of (capacity_of self.old)) (D.bytes (cat_of self.new)) ≡ 0) }
         ensures mark { IsTrue D.is_modelled → OnOk result (NamesArea (D.bytes (cat_of self.new))) }
         ensures closed { IsTrue D.is_modelled
             → OnOk result (StandsClosed (seen D.Disk (cat_of self.new))) }

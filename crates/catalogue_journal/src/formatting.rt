@@ -69,6 +69,7 @@ pub(crate) fn format_catalogue<D: Disk>(
     ensures area { slots.new.area ≡ slots.old.area }
     ensures base { mark.new.base ≡ mark.old.base }
     ensures journal { IsTrue D.is_modelled → OnOk result (Journals slots.old.area empty (D.bytes disk.new)) }
+    ensures none { IsTrue D.is_modelled → OnOk result (used slots.old.area (D.bytes disk.new) ≡ 0) }
     ensures names { IsTrue D.is_modelled → OnOk result (NamesArea (D.bytes disk.new)) }
     ensures closed { IsTrue D.is_modelled → OnOk result (StandsClosed (seen D.Disk disk.new)) }
     ensures durable { IsTrue D.is_modelled → OnOk result (OnlyAfter era.now.number (D.bytes disk.new) (D.image disk.new)) }

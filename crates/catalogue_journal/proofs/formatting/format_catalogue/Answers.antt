@@ -25,6 +25,18 @@ returns-clause-journal g c tells =
     (after_store area.capacity mid new none long (subst (λ (k : ℕ). Stores k (replicate {A = ℕ} 255 0) mid new) c.requires.mark stores)))
     (c.format.ensures.stored tells (omega (arith, long, c.requires.mark)))
 
+pub returns-clause-none : goal.returns-clause-none
+returns-clause-none g c tells =
+    let area : Area = c.args.slots.now.area in
+    let mid = g.D.Disk.bytes c.close_all.new.disk in
+    let new = g.D.Disk.bytes c.format.new.disk in
+    let long : 73728 ≤ length mid = c.in_ok-close_all.ensures.long tells in
+    let none : used (area_of area.capacity) mid ≡ 0 = subst (λ (a : Area). used a mid ≡ 0) c.requires.area (c.in_ok-close_all.ensures.none tells) in
+    on_ok c.format.result
+    (λ stores. subst (λ (a : Area). used a new ≡ 0) (sym c.requires.area)
+    (gates_stay area.capacity (replicate {A = ℕ} 255 0) mid new (subst (λ (k : ℕ). Stores k (replicate {A = ℕ} 255 0) mid new) c.requires.mark stores) ∙ none))
+    (c.format.ensures.stored tells (omega (arith, long, c.requires.mark)))
+
 pub returns-clause-names : goal.returns-clause-names
 returns-clause-names g c tells =
     let new = g.D.Disk.bytes c.format.new.disk in
