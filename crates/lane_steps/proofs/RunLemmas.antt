@@ -72,6 +72,19 @@ module _ (changes : List Brought) (i : ℕ) (change : Brought) (lt : i < length 
       → all ≡ own space count (drop (i + 1) (map change_of changes))
   not_first space count all not same = same ∙ own_other space count not
 
+  -- commits that rise on from the ones behind it
+  onward_here : (low : ℕ) (rest : List Change) → Rises low (drop i (map change_of changes) ++ rest) → Rises low ((change_of change ∷ drop (i + 1) (map change_of changes)) ++ rest)
+  onward_here low rest rises = subst (λ (l : List Change). Rises low (l ++ rest)) here rises
+
+  pub onward_taken : (low next : ℕ) (rest : List Change) → next ≡ change.commit → Rises low (drop i (map change_of changes) ++ rest) → Rises next (drop (i + 1) (map change_of changes) ++ rest)
+  onward_taken low next rest at rises =
+      subst (λ (n : ℕ). Rises n (drop (i + 1) (map change_of changes) ++ rest)) (sym at) (onward_here low rest rises).1
+
+  pub onward_passed : (low : ℕ) (rest : List Change) → Rises low (drop i (map change_of changes) ++ rest) → Rises low (drop (i + 1) (map change_of changes) ++ rest)
+  onward_passed low rest rises =
+      let both = onward_here low rest rises in
+      rises_lower low change.commit (drop (i + 1) (map change_of changes) ++ rest) both.0 both.1
+
 -- the commit of the first own change isn't before a commit from which on they rise
 pub first_rises : (space count low next : ℕ) (list : List Change) → Rises low list → Some next ≡ first_commit (own space count list) → low ≤ next
 first_rises space count low next list rises first =

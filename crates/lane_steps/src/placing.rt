@@ -20,7 +20,8 @@ pub struct Run {
 impl Run {
     /// Nothing is laid.
     pub fn new() -> Run
-        ensures { IsRun result.commit result.count [] }
+        ensures commit { result.commit ≡ 0 }
+        ensures run { IsRun result.commit result.count [] }
     {
         Run {
             commit: 0,
@@ -46,9 +47,11 @@ impl Run {
 
     /// With these changes laid behind the others.
     pub fn with_laid(self, changes: &[Change], space: u16, count: u32) -> Run
-        ensures { (laid : List ChangeView) → IsRun self.commit self.count laid → Rises self.commit (map change_of changes.now)
+        ensures run { (laid : List ChangeView) → IsRun self.commit self.count laid → Rises self.commit (map change_of changes.now)
             → length (laid ++ own space count (map change_of changes.now)) < 2 ^ 32
             → IsRun result.commit result.count (laid ++ own space count (map change_of changes.now)) }
+        // Its commit is none that others behind these could fall below.
+        ensures onward { (rest : List ChangeView) → Rises self.commit (map change_of changes.now ++ rest) → Rises result.commit rest }
     {
         let mut run = self;
         for change in changes {

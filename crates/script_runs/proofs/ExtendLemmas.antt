@@ -19,7 +19,7 @@ use Rattle.walks.specs.FollowsLaws.{still}
 use Rattle.log_reading.specs.declared.replay.LogState.{LogState}
 use Rattle.log_reading.specs.Logs.{IsReady}
 use Rattle.log_reading.specs.Replays.{IsStateOf}
-use Rattle.script_runs.specs.declared.script.Progress.{Progress}
+use Rattle.script_steps.specs.declared.script.Progress.{Progress}
 use Rattle.script_runs.specs.declared.transactions.Counts.{Counts}
 use Rattle.script_runs.specs.declared.transactions.Stop.{Stop}
 use Rattle.script_runs.specs.declared.transactions.Stop.TheVariants.{End, Fault, Full, ReadFault, DiskFault, OutOfMemory}

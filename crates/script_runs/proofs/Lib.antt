@@ -6,3 +6,4 @@ mod LinesLemmas
 mod RunLemmas
 mod StageLemmas
 mod StepLemmas
+mod TakenLemmas

@@ -10,7 +10,7 @@ use Rattle.walks.specs.Courses.{Course}
 use Rattle.script_runs.specs.declared.transactions.Work.{Work}
 use Rattle.script_runs.specs.declared.transactions.Stop.{Stop}
 use Rattle.script_runs.specs.declared.transactions.Stop.TheVariants.{End, Fault, Full, ReadFault, DiskFault, OutOfMemory}
-use Rattle.script_runs.specs.Collecting.{IsBounded}
+use Rattle.script_steps.specs.Collecting.{IsBounded}
 use Rattle.script_runs.specs.ScriptSteps.{TakesStep, LinesEnd}
 use Rattle.script_runs.specs.Stages.{Halt, HasLeft, LeadsTo, run_course, use_of}
 use Rattle.script_runs.proofs.StageLemmas.{BatchEnds, further, finished}

@@ -5,8 +5,8 @@ use Rattle.site_model.specs.Runs.{ScriptState, Ending, appended, behind_batch}
 use Rattle.site_model.specs.Worlds.{Site}
 use Rattle.walks.specs.Courses.{behind_moves, make, then_do}
 use Rattle.walks.specs.CoursesLaws.{then_next}
-use Rattle.script_runs.specs.declared.script.Progress.{Progress}
-use Rattle.script_runs.specs.Collecting.{collected_of}
+use Rattle.script_steps.specs.declared.script.Progress.{Progress}
+use Rattle.script_steps.specs.Collecting.{collected_of}
 use Rattle.script_runs.specs.Scripts.{place_at}
 use Rattle.script_runs.specs.Stages.{batch_rules, course_of}
 

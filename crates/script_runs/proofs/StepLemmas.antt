@@ -9,7 +9,7 @@ use Rattle.site_model.specs.declared.status.Status.TheVariants.{Ok as Done, LogF
 use Rattle.log_files.specs.declared.room.LogFull.TheVariants.{Positions}
 use Rattle.site_model.specs.Worlds.{Site}
 use Rattle.site_model.specs.Runs.{ScriptState, Ending, ends, appends, behind_batch, go_on, after_batch, appended, is_full, ended, ends_with}
-use Rattle.script_runs.specs.declared.script.Progress.{Progress}
+use Rattle.script_steps.specs.declared.script.Progress.{Progress}
 use Rattle.script_runs.specs.Scripts.{run_text}
 use Rattle.script_runs.specs.Stages.{course_of, run_course}
 use Rattle.script_runs.proofs.RunLemmas.{emptied}

@@ -1,5 +1,4 @@
 pub mod Batches
-pub mod Collecting
 pub mod Extending
 pub mod Scripts
 pub mod ScriptSteps

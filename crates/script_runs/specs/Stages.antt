@@ -16,7 +16,7 @@ use Rattle.site_model.specs.Worlds.{Site}
 use Rattle.walks.specs.Courses.{MoveRules, Course, Stage, Call, LeftToDo, after_all, make, then_do}
 use Rattle.walks.specs.Follows.{Images, Showing}
 use Rattle.log_reading.specs.Logs.{IsReady}
-use Rattle.script_runs.specs.declared.script.Progress.{Progress}
+use Rattle.script_steps.specs.declared.script.Progress.{Progress}
 use Rattle.script_runs.specs.declared.transactions.Counts.{Counts}
 use Rattle.script_runs.specs.declared.transactions.Stop.{Stop}
 use Rattle.script_runs.specs.declared.transactions.Stop.TheVariants.{Full as IsFull, DiskFault as DiskBroke}

@@ -17,13 +17,12 @@ ghost use Rattle.script_runs.specs.Extending.{report_of, ExtendsTo, IsUncut};
 ghost use Rattle.log_reading.specs.Logs.{IsKept, IsUnwritten};
 ghost use Rattle.script_runs.specs.Scripts.{run_text};
 
-use crate::collecting::Collected;
 use crate::running::run_script;
-use crate::script::Progress;
 use crate::transactions::{Counts, Stop, Work};
 use log_files::LogFull;
 use log_reading::{LogState, OpenLog, log_status, open_log};
 use script_lines::Lines;
+use script_steps::{Collected, Progress};
 use site_disk::{Disk, Era, Source};
 use site_headers::SiteHead;
 use site_model::{DiskName, Status};

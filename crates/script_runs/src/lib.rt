@@ -5,10 +5,8 @@
 #![tactic(auto)]
 
 mod appending;
-mod collecting;
 mod extending;
 mod running;
-mod script;
 mod transactions;
 
 pub use extending::{Extended, extend_log};

@@ -7,7 +7,7 @@ ghost use Rattle.site_disk.specs.Causes.{Rose};
 ghost use Rattle.site_disk.specs.Ledger.{MayUse};
 ghost use Rattle.site_headers.specs.Heads.{IsSpace};
 ghost use Rattle.site_model.specs.Worlds.{Site};
-ghost use Rattle.script_runs.specs.Collecting.{IsBounded};
+ghost use Rattle.script_steps.specs.Collecting.{IsBounded};
 ghost use Rattle.script_runs.specs.ScriptSteps.{LinesEnd, halt_at, last_status, stop_status};
 ghost use Rattle.script_runs.specs.Stages.{EndsWith, Halt, run_course, end_course, use_of};
 

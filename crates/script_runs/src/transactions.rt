@@ -9,15 +9,15 @@ ghost use Rattle.site_model.specs.Worlds.{Site};
 ghost use Rattle.script_lines.specs.Cutting.{TakesFront};
 ghost use Rattle.site_headers.specs.Views.{spaces_of};
 ghost use Rattle.site_headers.specs.Heads.{IsSpace};
-ghost use Rattle.script_runs.specs.Collecting.{IsBounded};
+ghost use Rattle.script_steps.specs.Collecting.{IsBounded};
 ghost use Rattle.script_runs.specs.ScriptSteps.{TakesStep, leaves_batch};
 ghost use Rattle.script_runs.specs.Stages.{Appends, use_of};
 
 use crate::appending::append_batch;
-use crate::script::{Progress, Step, take_next_line};
 use gated_slots::{AppendFault, Slots};
 use log_record::Record;
 use onbar_grammar::Why;
+use script_steps::{Progress, Step, take_next_line};
 use site_disk::{Disk, Era, Source};
 use site_headers::SpaceHead;
 

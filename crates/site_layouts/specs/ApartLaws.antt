@@ -9,8 +9,8 @@ use Rattle.log_history.specs.Live.{reset_points, reset_points_back}
 use Rattle.site_model.specs.declared.disk_name.DiskName.{DiskName}
 use Rattle.site_model.specs.declared.disk_name.DiskName.TheVariants.{Cat, Spare, Boot, Log, Volume, Chunk}
 use Rattle.backup_lines.specs.Lines.{Line}
-use Rattle.backup_lines.specs.Spans.{Point}
-use Rattle.site_worlds.specs.Worlds.{Kept, Active, LaneState, Site}
+use Rattle.backup_lines.specs.Spans.{Active, Point}
+use Rattle.site_worlds.specs.Worlds.{Kept, LaneState, Site}
 use Rattle.site_worlds.specs.Lanes.{FitLane, IsAtEnd, IsReplayed, IsUnder}
 use Rattle.site_worlds.specs.Fitness.{IsFitSite}
 use Rattle.site_worlds.specs.Moves.{Move, append_batch, append_reset, close_file, drop_oldest, next_file, mark_backed, format_log, commit_objects, append_lines, begin_restore, set_prepared, end_restore, move_lanes, site_after}

@@ -1,28 +1,27 @@
 -- Laws of what chunks show: what a move of another disk leaves of it.
-use Rattle.std.specs.Prelude.{◌≡◌, ℕ, zero, suc, ◌+◌, ◌≤◌, List, [], ◌∷◌, ◌++◌, length, map, replicate, slice_get, Bool, true, Option, Some, None}
+use Rattle.std.specs.Prelude.{◌≡◌, ℕ, zero, suc, ◌+◌, ◌≤◌, List, [], ◌∷◌, ◌++◌, length, map, slice_get, Bool, true, Option, Some, None}
 use Rattle.std.specs.List.{AllByRecursion}
 use Rattle.std.specs.Option.{option_map}
-use Rattle.std.proofs.Common.{arith, refl, sym, ap, subst, ◌∙◌, length-append}
-use Rattle.std.proofs.lemmas.List.{length-replicate}
+use Rattle.std.proofs.Common.{arith, refl, sym, ap, subst, ◌∙◌}
 use Rattle.std.proofs.lemmas.List.Elements.{Contains-append_left}
 use Rattle.std.proofs.lemmas.Option.{slice_get-map}
-use Rattle.std.specs.Int.{w32, to_be_bytes}
 use Rattle.log_history.specs.History.{History}
 use Rattle.log_history.specs.Live.{live, reset_points}
 use Rattle.log_history.specs.Effects.{Page}
 use Rattle.space_pages.specs.Pages.{pages_of}
 use Rattle.site_headers.specs.Heads.{Head}
-use Rattle.site_headers.specs.Headers.{HasHeader, volume_own}
-use Rattle.site_headers.specs.HeaderLaws.{length-header_tail, HasHeader-extent}
+use Rattle.site_headers.specs.Headers.{HasHeader}
 use Rattle.onbar_grammar.specs.Script.{Space}
 use Rattle.backup_lines.specs.Lines.{Archive, Line, archived}
 use Rattle.lane_ways.specs.Ways.{lane_pages, laid_at, pages_with}
 use Rattle.lane_ways.specs.WayLaws.{pages_at_live, pages_same, way_before}
-use Rattle.site_worlds.specs.Worlds.{Active, LaneState, stands, blank, merges, replays, stale, lost}
+use Rattle.backup_lines.specs.Spans.{Active}
+use Rattle.site_worlds.specs.Worlds.{LaneState, stands, blank, merges, replays, stale, lost}
 use Rattle.site_worlds.specs.Lanes.{EachLane, FitLane, IsAtEnd, IsReplayed, IsUnder}
 use Rattle.site_worlds.specs.Moves.{with_prepared, without_restore}
 use Rattle.world_laws.specs.ListLaws.{none_some, some_same}
-use Rattle.site_layouts.specs.Chunks.{chunk_tail, AreArchived, HoldsLane, HoldsMark, HoldsPages, HoldsStale, IsPast, NamesPast, ShowsChunk, goal_of}
+use Rattle.space_lane.specs.Chunks.{chunk_tail}
+use Rattle.site_layouts.specs.Chunks.{AreArchived, HoldsLane, HoldsMark, HoldsPages, HoldsStale, IsPast, NamesPast, ShowsChunk, goal_of}
 
 -- one lane of a site
 
@@ -46,19 +45,6 @@ pub lane_of_all : (P : LaneState → Type 0) (lanes : List LaneState) (n : ℕ) 
 lane_of_all P [] n lane all is = absurd (none_some is)
 lane_of_all P (first ∷ lanes) zero lane all is = subst P (some_same is) all.0
 lane_of_all P (first ∷ lanes) (suc n) lane all is = lane_of_all P lanes n lane all.1 is
-
--- its header
-
-pub length-chunk_tail : (site space count : ℕ) → length (chunk_tail site space count) ≡ 4095
-unfolding volume_own
-length-chunk_tail site space count =
-    length-header_tail 6 space site (volume_own count) (omega (arith, length-append (to_be_bytes w32 count) (replicate {A = ℕ} 4076 0), length-replicate {A = ℕ} 4076 0))
-
--- a lane at a place has its header and its mark as any other
-pub marked_place : (site space count : ℕ) (lane : LaneState) (upto part : ℕ) (pages : List Page) (bytes : List ℕ)
-    → HoldsPages site space count lane upto part pages bytes → HasHeader (chunk_tail site space count) bytes
-marked_place site space count lane upto part pages bytes holds =
-    HasHeader-extent holds.gate (chunk_tail site space count) bytes holds.is_open (length-chunk_tail site space count) holds.shows.header
 
 -- a batch
 
@@ -159,13 +145,7 @@ names_past_later number active restore lost is past = tt
 
 marked_stale : (site count number : ℕ) (restore : Active) (space : ℕ) (lane : LaneState) (bytes : List ℕ) → HoldsMark site space count lane bytes
     → NamesPast (suc number) (Some restore) lane → HoldsStale site space count (suc number) (Some restore) bytes
-marked_stale site count number restore space lane bytes holds past = record {
-  header = holds.header;
-  lane = lane;
-  fits = holds.fits;
-  mark = holds.mark;
-  past = past;
-}
+marked_stale site count number restore space lane bytes holds past = record { lane = lane; holds = holds; past = past }
 
 begin_lane : (site count : ℕ) (spaces : List Space) (history : History) (lines : List Line) (number : ℕ) (active : Option Active) (restore : Active) (space : ℕ) (lane : LaneState)
     (bytes : List ℕ) → restore.number ≡ suc number → ((r : ℕ) → IsUnder active r → r ≤ number) → FitLane spaces history lines active space lane
@@ -176,20 +156,10 @@ begin_lane site count spaces history lines number active restore space (blank r)
     marked_stale site count number restore space (blank r) bytes shows.holds (past_later number restore r is (below r fit))
 begin_lane site count spaces history lines number active restore space (merges r chain archive entries) bytes is below fit shows =
     marked_stale site count number restore space (merges r chain archive entries) bytes shows.holds (past_later number restore r is (below r fit.under))
-begin_lane site count spaces history lines number active restore space (replays r chain upto part) bytes is below fit shows = record {
-  header = marked_place site space count (replays r chain upto part) upto part _ bytes shows;
-  lane = replays r chain upto part;
-  fits = shows.fits;
-  mark = shows.shows.mark;
-  past = past_later number restore r is (below r fit.under);
-}
-begin_lane site count spaces history lines number active restore space stale bytes is below fit shows = record {
-  header = shows.header;
-  lane = shows.lane;
-  fits = shows.fits;
-  mark = shows.mark;
-  past = names_past_later number active restore shows.lane is shows.past;
-}
+begin_lane site count spaces history lines number active restore space (replays r chain upto part) bytes is below fit shows =
+    marked_stale site count number restore space (replays r chain upto part) bytes shows.holds (past_later number restore r is (below r fit.under))
+begin_lane site count spaces history lines number active restore space stale bytes is below fit shows =
+    marked_stale site count number restore space shows.lane bytes shows.holds (names_past_later number active restore shows.lane is shows.past)
 begin_lane site count spaces history lines number active restore space lost bytes is below fit shows = shows
 
 begin_option : (head : Head) (history : History) (lines : List Line) (number : ℕ) (active : Option Active) (restore : Active) (n : ℕ) (lane : Option LaneState) (bytes : List ℕ)
@@ -234,10 +204,8 @@ prepared_lane site count history lines number prepared restore space (blank r) b
 prepared_lane site count history lines number prepared restore space (merges r chain archive entries) bytes shows = shows
 prepared_lane site count history lines number prepared restore space (replays r chain upto part) bytes shows = shows
 prepared_lane site count history lines number prepared restore space stale bytes shows = record {
-  header = shows.header;
   lane = shows.lane;
-  fits = shows.fits;
-  mark = shows.mark;
+  holds = shows.holds;
   past = names_past_prepared number prepared restore shows.lane shows.past;
 }
 prepared_lane site count history lines number prepared restore space lost bytes shows = shows
@@ -271,11 +239,11 @@ end_shows head history lines number end active n (Some lane) bytes there shows =
 -- it has its header
 pub lane_has_header : (site count : ℕ) (history : History) (lines : List Line) (number : ℕ) (active : Option Active) (space : ℕ) (lane : LaneState) (bytes : List ℕ)
     → (lane ≡ lost → ⊥) → HoldsLane site count history lines number active space lane bytes → HasHeader (chunk_tail site space count) bytes
-lane_has_header site count history lines number active space (stands upto part) bytes isnt shows = marked_place site space count (stands upto part) upto part _ bytes shows
-lane_has_header site count history lines number active space (blank r) bytes isnt shows = shows.holds.header
-lane_has_header site count history lines number active space (merges r chain archive entries) bytes isnt shows = shows.holds.header
-lane_has_header site count history lines number active space (replays r chain upto part) bytes isnt shows = marked_place site space count (replays r chain upto part) upto part _ bytes shows
-lane_has_header site count history lines number active space stale bytes isnt shows = shows.header
+lane_has_header site count history lines number active space (stands upto part) bytes isnt shows = shows.holds.holds.header
+lane_has_header site count history lines number active space (blank r) bytes isnt shows = shows.holds.holds.header
+lane_has_header site count history lines number active space (merges r chain archive entries) bytes isnt shows = shows.holds.holds.header
+lane_has_header site count history lines number active space (replays r chain upto part) bytes isnt shows = shows.holds.holds.header
+lane_has_header site count history lines number active space stale bytes isnt shows = shows.holds.holds.header
 lane_has_header site count history lines number active space lost bytes isnt shows = absurd (isnt refl)
 
 -- at a live position with nothing more laid it has the pages of that position

@@ -1,5 +1,6 @@
 -- What each disk shows of a site, and of a world.
 use Rattle.std.specs.Prelude.{ℕ, List, slice_get}
+use Rattle.boot_file.specs.Places.{HoldsBoot}
 use Rattle.catalogue_replay.specs.Answers.{HasNoHead}
 use Rattle.site_model.specs.declared.disk_name.DiskName.{DiskName}
 use Rattle.site_model.specs.declared.disk_name.DiskName.TheVariants.{Cat, Spare, Boot, Log, Volume, Chunk}
@@ -8,11 +9,11 @@ use Rattle.site_layouts.specs.Stores.{Held, HoldsCatalogue, HoldsSpare, ShowsVol
 use Rattle.site_layouts.specs.Rings.{ShowsRing}
 use Rattle.site_layouts.specs.Chunks.{ShowsChunk}
 
--- A disk shows its part of a formatted site. The boot file shows anything yet.
+-- a disk shows its part of a formatted site
 abbrev pub ShowsSite : DiskName → Site → Held → List ℕ → Type 0
 ShowsSite Cat site held bytes = HoldsCatalogue site.head site.store held bytes
 ShowsSite Spare site held bytes = HoldsSpare site.head bytes
-ShowsSite Boot site held bytes = Unit {0}
+ShowsSite Boot site held bytes = HoldsBoot site.head.site site.lines site.number site.active bytes
 ShowsSite Log site held bytes = ShowsRing site.head.site site.starts site.history site.ring bytes
 ShowsSite (Volume n) site held bytes = ShowsVolume site.head site.store n bytes
 ShowsSite (Chunk n) site held bytes = ShowsChunk site.head site.history site.lines site.number site.active n (slice_get site.lanes n) bytes

@@ -11,9 +11,15 @@ pub mod NewLaws
 pub mod PhaseLaws
 pub mod Stages
 pub mod StageLaws
+pub mod WayLaws
 pub mod LeafLaws
 pub mod LanesLaws
 pub mod VoteLaws
 pub mod MarkLaws
 pub mod TellsLaws
+pub mod LaneWords
+pub mod PlaceLaws
+pub mod LaneLaws
+pub mod AgreeLaws
 pub mod LogLaws
+pub mod BootLaws

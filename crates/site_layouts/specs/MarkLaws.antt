@@ -1,8 +1,14 @@
--- The record of a chunk's mark fills its slot.
+-- The record of a chunk's mark fills its slot, and tells its state.
 use Rattle.std.specs.Prelude.{◌≡◌, ℕ, ◌≤◌, List, [], ◌∷◌, length}
-use Rattle.std.proofs.Common.{arith, refl}
-use Rattle.site_worlds.specs.Worlds.{LaneState, stands, blank, merges, replays, stale, lost}
-use Rattle.site_layouts.specs.Chunks.{MarkFields, FitsMark, fields_of, mark_of, spelled}
+use Rattle.std.proofs.Common.{arith, refl, sym, ◌∙◌}
+use Rattle.std.proofs.lemmas.List.{length-take}
+use Rattle.backup_lines.specs.declared.lanes.Chain.{Chain}
+use Rattle.backup_lines.specs.declared.lanes.LaneState.{LaneState as State}
+use Rattle.backup_lines.specs.declared.lanes.LaneState.TheVariants.{At, Blank, Image, Replay}
+use Rattle.backup_lines.specs.Views.{copies_of}
+use Rattle.lane_mark.specs.Layout.{MarkFields, FitsChain, FitsState, fields_of, spelled, spelling}
+use Rattle.lane_mark.proofs.LayoutLemmas.{state_at-spelling}
+use Rattle.world_laws.specs.ListLaws.{some_same}
 
 length-spelled : (fields : MarkFields) (chain : List ℕ) → length chain ≤ 3 → length (spelled (record fields { chain = chain })) ≡ 255
 unfolding spelled
@@ -12,10 +18,15 @@ length-spelled fields (a ∷ b ∷ []) few = refl
 length-spelled fields (a ∷ b ∷ c ∷ []) few = refl
 length-spelled fields (a ∷ b ∷ c ∷ d ∷ chain) few = absurd (omega (arith, few))
 
-pub length-mark_of : (lane : LaneState) → FitsMark lane → length (mark_of lane) ≡ 255
-length-mark_of (stands upto part) fits = length-spelled (fields_of (stands upto part)) [] (omega arith)
-length-mark_of (blank restore) fits = length-spelled (fields_of (blank restore)) [] (omega arith)
-length-mark_of (merges restore chain archive entries) fits = length-spelled (fields_of (merges restore chain archive entries)) chain fits.1.few
-length-mark_of (replays restore chain upto part) fits = length-spelled (fields_of (replays restore chain upto part)) chain fits.1.few
-length-mark_of stale fits = absurd fits
-length-mark_of lost fits = absurd fits
+few_copies : (chain : Chain) → FitsChain chain → length (copies_of chain) ≤ 3
+few_copies chain fits = omega (arith, fits.few, length-take chain.len chain.copies)
+
+pub length-spelling : (state : State) → FitsState state → length (spelling state) ≡ 255
+length-spelling (At upto part) fits = length-spelled (fields_of (At upto part)) [] (omega arith)
+length-spelling (Blank restore) fits = length-spelled (fields_of (Blank restore)) [] (omega arith)
+length-spelling (Image restore chain image entries) fits = length-spelled (fields_of (Image restore chain image entries)) (copies_of chain) (few_copies chain fits.1)
+length-spelling (Replay restore chain upto part) fits = length-spelled (fields_of (Replay restore chain upto part)) (copies_of chain) (few_copies chain fits.1)
+
+-- Two states with the same record are one.
+pub one_state : (state other : State) → FitsState state → FitsState other → spelling state ≡ spelling other → state ≡ other
+one_state state other fits fit same = some_same (sym (state_at-spelling state (spelling state) fits refl) ∙ state_at-spelling other (spelling state) fit same)

@@ -1,19 +1,20 @@
 -- A new site's disks, as they are formatted, show the new world; a site that isn't formatted, and worlds told apart.
-use Rattle.std.specs.Prelude.{◌≡◌, ℕ, ◌+◌, ◌≤◌, List, [], ◌∷◌, length, map, slice_get, false, Option, Some, None}
+use Rattle.std.specs.Prelude.{◌≡◌, ℕ, ◌+◌, List, [], ◌∷◌, map, slice_get, false, Option, Some, None}
 use Rattle.std.specs.Option.{option_map}
 use Rattle.std.proofs.Common.{refl, sym, ap, subst, ◌∙◌}
-use Rattle.std.proofs.lemmas.List.{length-replicate}
 use Rattle.std.proofs.lemmas.Option.{slice_get-map, slice_get_within}
-use Rattle.log_history.specs.Effects.{Page, empty_page}
+use Rattle.log_history.specs.Effects.{Page}
 use Rattle.onbar_grammar.specs.Script.{Space}
-use Rattle.before_images.specs.Saved.{Saved, restored, place_of, put_back, saved_at}
+use Rattle.before_images.specs.Saved.{Saved, restored, put_back, saved_at}
 use Rattle.catalogue_replay.specs.Answers.{HasNoHead}
 use Rattle.catalogue_replay.proofs.SameLemmas.{journals_once}
 use Rattle.site_headers.specs.Heads.{Head}
-use Rattle.site_headers.specs.HeaderLaws.{one_catalogue_header, extent-HasHeader}
+use Rattle.site_headers.specs.HeaderLaws.{one_catalogue_header}
 use Rattle.space_pages.specs.Pages.{brought, empty_pages}
 use Rattle.lane_ways.specs.Ways.{lane_pages}
 use Rattle.lane_ways.specs.Pictures.{Stand, images_at, pages_at}
+use Rattle.backup_lines.specs.declared.lanes.LaneState.TheVariants.{At}
+use Rattle.space_lane.specs.Stops.{IsFormatted as IsFormattedChunk}
 use Rattle.site_model.specs.declared.disk_name.DiskName.{DiskName}
 use Rattle.site_model.specs.declared.disk_name.DiskName.TheVariants.{Cat, Spare, Boot, Log, Volume, Chunk}
 use Rattle.site_worlds.specs.Worlds.{LaneState, Store, World, stands, unformatted, formatted, new_site}
@@ -23,10 +24,10 @@ use Rattle.site_worlds.specs.Fitness.{IsFit}
 use Rattle.world_laws.specs.NewLaws.{CanWorldMove}
 use Rattle.site_layouts.specs.Disks.{moves_world_disk}
 use Rattle.site_layouts.specs.Stores.{Held, HoldsCatalogue, catalogue_area, contents_of}
-use Rattle.site_layouts.specs.Chunks.{HoldsPages, ShowsChunk, chunk_tail}
+use Rattle.site_layouts.specs.Chunks.{HoldsPages, ShowsChunk}
 use Rattle.site_layouts.specs.Layouts.{ShowsSite, ShowsWorld}
 use Rattle.site_layouts.specs.ApartLaws.{Awaits, apart}
-use Rattle.site_layouts.specs.Formatted.{FormattedChunk, IsFormatted}
+use Rattle.site_layouts.specs.Formatted.{IsFormatted}
 
 -- a chunk
 
@@ -41,20 +42,13 @@ none_back : (limit upto part : ℕ) (bytes : List ℕ) → saved_at images_at by
 unfolding restored
 none_back limit upto part bytes none = ap (λ (saved : Option Saved). put_back pages_at limit upto part saved bytes) none
 
-new_chunk : (site space count : ℕ) (bytes : List ℕ) → FormattedChunk site space count bytes
+new_chunk : (site space count : ℕ) (bytes : List ℕ) → IsFormattedChunk site space count (At 0 0) bytes
     → HoldsPages site space count (stands 0 0) 0 0 (lane_pages [] 0 space 0 0 count) bytes
-new_chunk site space count bytes chunk =
-    subst (λ (pages : List Page). HoldsPages site space count (stands 0 0) 0 0 pages bytes) (sym (new_pages space count)) (record {
-      gate = chunk.holds.header.gate;
-      is_open = chunk.holds.header.is_open;
-      fits = chunk.holds.fits;
-      shows = record {
-        header = extent-HasHeader (chunk_tail site space count) bytes chunk.holds.header;
-        mark = chunk.holds.mark;
-        long = subst (λ (n : ℕ). place_of pages_at n ≤ length bytes) (sym (length-replicate count empty_page)) chunk.holds.long;
-        pages = subst (Stand space 0 (empty_pages count)) (sym (none_back (length (empty_pages count)) 0 0 bytes chunk.none_saved)) chunk.pages;
-      };
-    })
+new_chunk site space count bytes chunk = record {
+  holds = record { state = At 0 0; is = refl; holds = chunk.holds };
+  stand = subst (λ (pages : List Page). Stand space 0 pages (restored images_at pages_at count 0 0 bytes)) (sym (new_pages space count))
+      (subst (Stand space 0 (empty_pages count)) (sym (none_back count 0 0 bytes chunk.none.none)) chunk.pages);
+}
 
 new_option : (head : Head) (n : ℕ) (space : Option Space) (bytes : List ℕ) → slice_get head.spaces n ≡ space → IsFormatted (Chunk n) head bytes
     → ShowsChunk head [] [] 0 None n (option_map (λ s. stands 0 0) space) bytes
@@ -81,7 +75,7 @@ new_site_shows head held Cat bytes own whole = record {
   used = whole.used;
 }
 new_site_shows head held Spare bytes own whole = whole
-new_site_shows head held Boot bytes own whole = tt
+new_site_shows head held Boot bytes own whole = whole
 new_site_shows head held Log bytes own whole = whole
 new_site_shows head held (Volume n) bytes own whole = λ there. record { header = whole there; objects = tt }
 new_site_shows head held (Chunk n) bytes own whole = new_chunk_shows head n bytes whole

@@ -6,7 +6,8 @@ use Rattle.walks.specs.Courses.{Stage}
 use Rattle.site_headers.specs.Heads.{Head}
 use Rattle.backup_lines.specs.Lines.{Line}
 use Rattle.site_model.specs.declared.disk_name.DiskName.{DiskName}
-use Rattle.site_worlds.specs.Worlds.{Store, Ring, Active, LaneState, Site}
+use Rattle.backup_lines.specs.Spans.{Active}
+use Rattle.site_worlds.specs.Worlds.{Store, Ring, LaneState, Site}
 use Rattle.site_worlds.specs.Fitness.{IsFitSite}
 use Rattle.site_worlds.specs.Moves.{Move, site_after, site_rules}
 use Rattle.site_courses.specs.Faults.{Fault, cuts}

@@ -1,4 +1,5 @@
 pub mod Scripts
 pub mod AppendLaws
+pub mod Places
 pub mod ScriptLaws
 pub mod Passing

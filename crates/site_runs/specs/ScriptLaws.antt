@@ -1,6 +1,5 @@
 -- Each move of a script's run may be made.
 use Rattle.std.specs.Prelude.{◌≡◌, ℕ, suc, ◌+◌, ◌≤◌, ◌==◌, ◌||◌, max, List, [], ◌∷◌, ◌++◌, length, Bool, true, false, if◌then◌else◌, Option, None, Some, Result, Ok, Err}
-use Rattle.std.specs.List.{AllByRecursion}
 use Rattle.std.proofs.Common.{arith, refl, ap, sym, subst, ◌∙◌, append_assoc, length-append}
 use Rattle.std.proofs.lemmas.Bool.Decides.{nat_tests}
 use Rattle.std.proofs.lemmas.List.{append-nil}
@@ -11,20 +10,20 @@ use Rattle.onbar_grammar.specs.declared.Why.{Why}
 use Rattle.onbar_grammar.specs.Script.{Raw, Space, Line, begin_line, write_line, commit_line, abort_line, line_of, entry_of_line, line_fault, raw_lines, spelled}
 use Rattle.walks.specs.Courses.{after_all, only}
 use Rattle.site_worlds.specs.Worlds.{Site}
-use Rattle.site_worlds.specs.Fitness.{IsWithin, IsFitSite}
+use Rattle.site_worlds.specs.Fitness.{IsWithin}
 use Rattle.site_worlds.specs.Moves.{site_rules}
 use Rattle.site_worlds.specs.Allowed.{HasRing, IsNoReset}
-use Rattle.world_laws.specs.KeptLaws.{CanAll, can_append, fit_after_all}
+use Rattle.world_laws.specs.KeptLaws.{CanAll, can_append}
 use Rattle.world_laws.specs.ListLaws.{all_append}
 use Rattle.site_courses.specs.Faults.{Fault, script_fault}
 use Rattle.site_courses.specs.Courses.{check, in_turn, if_active, if_log_lost, if_any_lost}
-use Rattle.course_laws.specs.Leading.{Leads, LeadsFrom, leads_check, leads_none, leads_then}
-use Rattle.course_laws.specs.AppendingLaws.{IsReadyFor, active_none, leads_append, ring_there}
+use Rattle.course_laws.specs.Leading.{LeadsFrom, leads_check, leads_none, leads_then}
+use Rattle.course_laws.specs.AppendingLaws.{active_none, ring_there}
 use Rattle.site_model.specs.LineLaws.{line_within, line_follows}
 use Rattle.site_model.specs.Runs.{Collected, Taken, nothing, joined, bad, ends_batch, join, take_meaning, take_text, time_after, unless_refused}
 use Rattle.site_model.specs.Worlds.{IsWithin as IsLineWithin}
-use Rattle.site_runs.specs.Scripts.{ScriptState, Ending, Outcome, goes_on, appends, ends, append_collected, ends_by, ended, appended, if_refused, after_batch, after_taken, after_fault, step_line, go_on, run_lines, first_state, script_course, transactions_of}
-use Rattle.site_runs.specs.AppendLaws.{append_has}
+use Rattle.site_runs.specs.Scripts.{ScriptState, Ending, Outcome, goes_on, appends, ends, append_collected, ends_by, ended, if_refused, after_batch, after_taken, after_fault, step_line, go_on, run_lines, first_state, script_course, transactions_of}
+use Rattle.site_runs.specs.Places.{GoesOnFrom, KeepsUpTo, Keeps, TakesOn, leads, appended_keeps, wider}
 
 -- the last time behind one record more
 
@@ -64,64 +63,6 @@ some_of : (n : ℕ) → (n == 0) ≡ false → 1 ≤ n
 some_of n isnt = grind (arith, nat_tests, isnt)
 
 module _ (moment : ℕ) where
-  -- what is collected goes on from a log: in order, within the spaces, at most so many records, none of them a Reset
-  record GoesOnFrom (spaces : List Space) (history : History) (limit : ℕ) (c : Collected) : Type 0 where
-    table : c.table ≡ table_of (history ++ c.batch)
-    time : c.time ≡ last_time (history ++ c.batch)
-    order : InOrder (history ++ c.batch)
-    within : AllByRecursion (IsWithin spaces) c.batch
-    plain : AllByRecursion IsNoReset c.batch
-    few : length c.batch ≤ limit
-
-  -- a place whose site is fit, without a restore under way and with its log
-  record KeepsUpTo (limit : ℕ) (place : ScriptState) : Type 0 where
-    fit : IsFitSite place.site
-    none : place.site.active ≡ None
-    has : HasRing place.site
-    follows : GoesOnFrom place.site.head.spaces place.site.history limit place.collected
-
-  abbrev Keeps : ScriptState → Type 0
-  Keeps place = KeepsUpTo 31 place
-
-  module _ (place : ScriptState) (is : KeepsUpTo 32 place) (some : 1 ≤ length place.collected.batch) where
-    ready : IsReadyFor (place.collected.batch ∷ []) place.site
-    ready = record {
-      none = is.none;
-      has = is.has;
-      are = (
-        record {
-          some = some;
-          few = omega (arith, is.follows.few);
-          order = is.follows.order;
-          within = is.follows.within;
-          plain = is.follows.plain;
-        },
-        tt,
-      );
-    }
-
-    leads : Leads place.site (append_collected place) (IsReadyFor [])
-    leads = leads_append place.collected.batch [] place.site is.fit ready
-
-    appended_keeps : (append_collected place).fault ≡ None → Keeps (appended place)
-    appended_keeps none =
-        let has = append_has place.collected.batch place.site is.has none in
-        let behind = leads.then_holds none in
-        let again : (appended place).site.history ++ [] ≡ place.site.history ++ place.collected.batch = append-nil _ ∙ has.history in
-        record {
-          fit = fit_after_all (append_collected place).moves place.site leads.can is.fit;
-          none = behind.none;
-          has = behind.has;
-          follows = record {
-            table = is.follows.table ∙ ap table_of (sym again);
-            time = is.follows.time ∙ ap last_time (sym again);
-            order = subst InOrder (sym again) is.follows.order;
-            within = tt;
-            plain = tt;
-            few = omega arith;
-          };
-        }
-
   -- where a run ends its moves may be made
   ended_can : (fault : Option Fault) (left : List Raw) (place : ScriptState) → KeepsUpTo 32 place → CanAll (ended fault left place).moves place.site
   ended_can fault left place is = by (length place.collected.batch == 0) refl
@@ -130,21 +71,6 @@ module _ (moment : ℕ) where
           → CanAll (ends_by fault left (if none then only None else append_collected place)).moves place.site
       by true same = tt
       by false same = (leads place is (some_of (length place.collected.batch) same)).can
-
-  wider : (place : ScriptState) → Keeps place → KeepsUpTo 32 place
-  wider place is = record {
-    fit = is.fit;
-    none = is.none;
-    has = is.has;
-    follows = record {
-      table = is.follows.table;
-      time = is.follows.time;
-      order = is.follows.order;
-      within = is.follows.within;
-      plain = is.follows.plain;
-      few = omega (arith, is.follows.few);
-    };
-  }
 
   -- how it goes on from a site
   abbrev GoesFrom : Site → Outcome → Type 0
@@ -158,13 +84,6 @@ module _ (moment : ℕ) where
       by : (fault : Option Fault) → (append_collected place).fault ≡ fault → GoesFrom place.site (if_refused fault left place)
       by (Some fault) same = ended_can None left place is
       by None same = ((leads place is some).can, appended_keeps place is some same, refl)
-
-  -- what a line does behind a log
-  abbrev TakesOn : List Space → History → Taken → Type 0
-  TakesOn spaces history nothing = Unit {0}
-  TakesOn spaces history (joined collected whole) =
-      GoesOnFrom spaces history 32 collected × (1 ≤ length collected.batch) × (whole ≡ false → length collected.batch ≤ 31)
-  TakesOn spaces history (bad why) = Unit {0}
 
   module _ (spaces : List Space) (history : History) (c : Collected) (follows : GoesOnFrom spaces history 31 c) where
     module _ (text : List ℕ) (line : Line) (says : line_of spaces text ≡ Ok (Some line)) where
@@ -207,7 +126,8 @@ module _ (moment : ℕ) where
       by_refusal (Some r) is = tt
       by_refusal None is = joins is
 
-    take_goes : (text : List ℕ) (meaning : Result (Option Line) Why) → line_of spaces text ≡ meaning → TakesOn spaces history (take_meaning moment (length history) c meaning)
+    -- the text of a line, which means this
+    pub take_goes : (text : List ℕ) (meaning : Result (Option Line) Why) → line_of spaces text ≡ meaning → TakesOn spaces history (take_meaning moment (length history) c meaning)
     take_goes text (Err why) says = tt
     take_goes text (Ok None) says = tt
     take_goes text (Ok (Some line)) says = by_refusal text line says (refusal (entry text line says) c.table) refl

@@ -1,17 +1,17 @@
 -- What stops leave of a header that is closed.
-use Rattle.std.proofs.Common.{◌≡◌, ◌⊎◌, ℕ, ◌+◌, ◌-◌, ◌<◌, ◌≤◌, List, [], ◌∷◌, ◌++◌, length, drop, min, refl, arith, ap, sym, subst, ◌∙◌, ⊎_elim}
+use Rattle.std.proofs.Common.{◌≡◌, ℕ, ◌+◌, ◌-◌, ◌<◌, ◌≤◌, List, [], ◌∷◌, length, drop, min, refl, arith, sym, subst, ◌∙◌, ⊎_elim}
 use mathlib.Core.Logic.{inl, inr}
 use Rattle.std.proofs.lemmas.Bool.{cases_lt, cases_order}
 use Rattle.std.proofs.lemmas.List.{take_all, length-drop}
-use Rattle.site_disk.specs.Bytes.{extent, filled, written, Same, Torn}
+use Rattle.site_disk.specs.Bytes.{extent, filled, Same, Torn}
 use Rattle.site_disk.specs.BytesLaws.{torn_whole}
 use Rattle.site_disk.specs.CallsLaws.{from_known}
 use Rattle.site_disk.specs.Gates.{shut}
 use Rattle.site_disk.specs.Images.{Seen, Leaves, OnlyAfter}
 use Rattle.site_disk.specs.ImagesLaws.{goes_on, weaker}
-use Rattle.gated_slots.specs.Header.{IsHeader, IsClosed, ClosedAfter, MayClose}
+use Rattle.gated_slots.specs.Header.{IsClosed, ClosedAfter, MayClose}
 use Rattle.gated_slots.specs.HeaderLaws.{closed_elsewhere, closed_or_not}
-use Rattle.space_lane.specs.Stops.{KeepsHeader, MayLose, StaysClosed}
+use Rattle.space_lane.specs.Stops.{MayLose, StaysClosed}
 
 same_behind : (old new : List ℕ) → ((len : ℕ) → extent 1 len new ≡ extent 1 len old) → drop 1 new ≡ drop 1 old
 same_behind old new same =

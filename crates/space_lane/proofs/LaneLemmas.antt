@@ -1,17 +1,17 @@
 -- What a lane that stands on its disk gives its calls.
 use Rattle.std.specs.Prelude.{Result, Ok, Err, OnOk}
-use Rattle.std.proofs.Common.{◌≡◌, ℕ, ◌+◌, ◌*◌, ◌<◌, ◌≤◌, List, length, Some, refl, arith, ap, sym, subst, ◌∙◌}
-use mathlib.Core.Logic.{inl, inr}
+use Rattle.std.proofs.Common.{◌≡◌, ℕ, ◌*◌, ◌<◌, ◌≤◌, List, length, refl, arith, ap, sym, subst, ◌∙◌}
+use mathlib.Core.Logic.{inl}
 use Rattle.std.proofs.lemmas.Option.{same_Some}
 use Rattle.log_history.specs.Effects.{Page, empty_page}
-use Rattle.site_disk.specs.Bytes.{extent, written, Same, Torn}
+use Rattle.site_disk.specs.Bytes.{written, Same, Torn}
 use Rattle.site_disk.specs.BytesLaws.{torn_whole}
 use Rattle.site_disk.specs.CallsLaws.{from_unchanged}
 use Rattle.site_disk.specs.Images.{Seen, Leaves, OnlyAfter, IsSynced, Unchanged}
 use Rattle.site_disk.specs.ImagesLaws.{goes_on, weaker}
 use Rattle.site_disk.specs.SeenLaws.{CountsOn, synced_after}
 use Rattle.gated_slots.specs.Header.{StandsClosed}
-use Rattle.twin_mark.specs.Marks.{Knows, MarkView, record_at, record_of}
+use Rattle.twin_mark.specs.Marks.{Knows, MarkView, record_of}
 use Rattle.before_images.specs.Saved.{place_of, saved_in}
 use Rattle.site_headers.specs.Headers.{HasHeader}
 use Rattle.site_headers.specs.HeaderLaws.{HasHeader-same}
@@ -20,14 +20,14 @@ use Rattle.std.proofs.lemmas.List.{length-replicate}
 use Rattle.backup_lines.specs.declared.lanes.LaneState.{LaneState}
 use Rattle.lane_ways.specs.Pictures.{Stand, images_at, mark_at, pages_at}
 use Rattle.lane_ways.specs.PictureLaws.{stand_same}
-use Rattle.lane_mark.specs.Layout.{FitsState, fields_at, spelling, state_with}
+use Rattle.lane_mark.specs.Layout.{fields_at, spelling, state_with}
 use Rattle.lane_mark.proofs.LayoutLemmas.{state_at-spelling}
-use Rattle.space_lane.specs.Chunks.{HasMark, HoldsState, IsSettled, KeepsNone, SamePages, chunk_tail, settled}
+use Rattle.space_lane.specs.Chunks.{HasMark, HoldsState, IsSettled, KeepsNone, SamePages, chunk_tail}
 use Rattle.space_lane.specs.Lanes.{Agrees, IsEmptied, IsMade, Stands, TellsOf, with_disk}
 use Rattle.space_lane.specs.Stops.{MayRestore, MaySettle, StaysClosed}
 use Rattle.space_lane.specs.declared.lane.Lane.{Lane}
 use Rattle.space_lane.proofs.ClosingLemmas.{closed_after, closed_torn, torn_stays}
-use Rattle.space_lane.proofs.StateLemmas.{KeepsFront, knows_still, settle_keeps, settle_same, settled_again}
+use Rattle.space_lane.proofs.StateLemmas.{KeepsFront, knows_still, settle_keeps, settle_same}
 
 -- values
 

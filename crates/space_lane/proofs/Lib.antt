@@ -4,3 +4,4 @@ pub mod PageLemmas
 pub mod StateLemmas
 pub mod LaneLemmas
 pub mod ShowLemmas
+pub mod AdvanceLemmas

@@ -1,7 +1,6 @@
 -- The pages of a chunk.
-use Rattle.std.proofs.Common.{◌≡◌, ℕ, zero, suc, ◌+◌, ◌-◌, ◌*◌, ◌<◌, ◌≤◌, List, [], ◌∷◌, ◌++◌, length, take, drop, replicate, Bool, IsTrue, refl, arith, ap, sym, subst, ◌∙◌}
-use mathlib.Core.Logic.{inl, inr}
-use Rattle.std.specs.Int.{to_be_bytes, w64}
+use Rattle.std.proofs.Common.{◌≡◌, ℕ, zero, suc, ◌+◌, ◌-◌, ◌*◌, ◌<◌, ◌≤◌, List, ◌++◌, length, take, replicate, Bool, IsTrue, arith, ap, sym, subst, ◌∙◌}
+use mathlib.Core.Logic.{inl}
 use Rattle.std.proofs.lemmas.List.{length-replicate, take-replicate}
 use Rattle.log_history.specs.Effects.{Page, empty_page}
 use Rattle.site_disk.specs.Bytes.{extent, written, Torn}

@@ -1,5 +1,5 @@
 -- What a chunk shows while a lane is opened and its state is set.
-use Rattle.std.proofs.Common.{◌≡◌, ◌⊎◌, ℕ, ◌+◌, ◌*◌, ◌≤◌, List, length, Some, None, refl, arith, ap, sym, subst, ◌∙◌}
+use Rattle.std.proofs.Common.{◌≡◌, ◌⊎◌, ℕ, ◌*◌, List, length, Some, None, refl, arith, ap, sym, subst, ◌∙◌}
 use mathlib.Core.Logic.{inl, inr}
 use Rattle.site_disk.specs.Bytes.{extent}
 use Rattle.log_history.specs.Effects.{Page}
@@ -11,7 +11,7 @@ use Rattle.backup_lines.specs.declared.lanes.LaneState.{LaneState}
 use Rattle.lane_ways.specs.Pictures.{MayMove, Picture, Shows, Stand, images_at, mark_at, pages_at}
 use Rattle.lane_ways.specs.PictureLaws.{stand_same}
 use Rattle.lane_mark.specs.Layout.{spelling}
-use Rattle.space_lane.specs.Chunks.{HoldsState, KeepsNone}
+use Rattle.space_lane.specs.Chunks.{HoldsState}
 use Rattle.space_lane.specs.Shown.{picture_of}
 use Rattle.space_lane.specs.Stops.{MaySet, Sets}
 

@@ -1,6 +1,6 @@
 -- A state set, settled, and written anew.
 use Rattle.std.specs.Prelude.{Result, Ok, Err, IsTrue}
-use Rattle.std.proofs.Common.{◌≡◌, ◌⊎◌, Bool, true, false, ℕ, ◌+◌, ◌*◌, ◌<◌, ◌≤◌, List, [], ◌∷◌, length, drop, Some, None, refl, arith, ap, sym, subst, ◌∙◌, ⊎_elim}
+use Rattle.std.proofs.Common.{◌≡◌, Bool, true, false, ℕ, ◌+◌, ◌*◌, ◌<◌, ◌≤◌, List, ◌∷◌, length, drop, None, refl, arith, ap, sym, subst, ◌∙◌, ⊎_elim}
 use mathlib.Core.Logic.{inl, inr}
 use Rattle.site_disk.specs.Bytes.{extent, written, Same, Torn}
 use Rattle.site_disk.specs.BytesLaws.{torn_whole}
@@ -9,9 +9,9 @@ use Rattle.site_disk.specs.CallsLaws.{from_known}
 use Rattle.site_disk.specs.Images.{Seen, Leaves, OnlyAfter, IsSynced, Unchanged}
 use Rattle.site_disk.specs.Causes.{HasCause}
 use Rattle.site_disk.specs.ImagesLaws.{goes_on, weaker}
-use Rattle.gated_slots.specs.Header.{IsHeader, IsClosed, ClosedAfter, MayOpen}
+use Rattle.gated_slots.specs.Header.{IsClosed, ClosedAfter, MayOpen}
 use Rattle.gated_slots.specs.HeaderLaws.{closed_no_header}
-use Rattle.twin_mark.specs.Marks.{MarkView, Knows, MayStore, Stores, current, record_at, record_of}
+use Rattle.twin_mark.specs.Marks.{MarkView, Knows, MayStore, Stores, current, record_of}
 use Rattle.before_images.specs.Saved.{Drops, MayDrop, MayPutBack, Stands as ImagesStand, applies, place_of, saved_at, saved_in}
 use Rattle.before_images.specs.RegionLaws.{put_back_same, restored_not}
 use Rattle.site_headers.specs.Headers.{HasHeader}
@@ -24,8 +24,8 @@ use Rattle.backup_lines.specs.declared.lanes.LaneState.TheVariants.{At, Blank, I
 use Rattle.lane_ways.specs.Pictures.{Stand, images_at, mark_at, pages_at}
 use Rattle.lane_ways.specs.PictureLaws.{stand_same}
 use Rattle.lane_mark.specs.Layout.{FitsState, spelling}
-use Rattle.space_lane.specs.Chunks.{HasMark, HoldsState, KeepsNone, SamePages, chunk_tail, settled}
-use Rattle.space_lane.specs.Stops.{IsFormatted, IsSet, KeepsHeader, MayFormat, MayLose, MayReopen, MaySet, MaySettle, Reopens, Sets, StaysClosed}
+use Rattle.space_lane.specs.Chunks.{HoldsState, KeepsNone, chunk_tail, settled}
+use Rattle.space_lane.specs.Stops.{IsFormatted, IsSet, MayFormat, MayLose, MayReopen, MaySet, MaySettle, Reopens, Sets, StaysClosed}
 use Rattle.space_lane.proofs.HeaderLemmas.{header_with}
 
 -- the mark's slot is known where its region hasn't changed

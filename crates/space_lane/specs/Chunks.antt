@@ -1,5 +1,5 @@
 -- How a lane stands on its chunk: the header, the mark at 4,096, the before-images at 8,192, page k at 77,824 + 4,096 × k.
-use Rattle.std.specs.Prelude.{◌≡◌, ℕ, ◌≤◌, List, [], ◌∷◌, ◌++◌, length, None, Some}
+use Rattle.std.specs.Prelude.{◌≡◌, ℕ, ◌≤◌, List, ◌∷◌, ◌++◌, length, None, Some}
 use Rattle.std.specs.Int.{w16, w32, to_be_bytes}
 use Rattle.site_disk.specs.Bytes.{extent}
 use Rattle.twin_mark.specs.Marks.{record_at}

@@ -156,6 +156,10 @@ impl<D: Disk> Lane<D> {
         ensures refused { IfErr result (λ fault. IsRefusal fault → D.bytes (disk_of self.new) ≡ D.bytes (disk_of self.old)) }
         ensures untouched { IfErr result (λ fault. IsRefusal fault
             → Leaves era.now.number Same (D.image (disk_of self.old)) (D.image (disk_of self.new))) }
+        // Without a header nothing is written, also where the disk fails.
+        ensures unheaded { IsTrue D.is_modelled
+            → (HasHeader (chunk_tail site (space_of self.old) pages) (D.bytes (disk_of self.old)) → ⊥)
+            → Leaves era.now.number Same (D.image (disk_of self.old)) (D.image (disk_of self.new)) }
         ensures ledger { Uses era.now 74496 (143360 + 4096 * 2 ^ 32) (D.ledger (disk_of self.old)) (D.ledger (disk_of self.new)) }
         ensures bound { IsTrue D.is_modelled → place_of pages_at pages ≤ length (D.bytes (disk_of self.old))
             → (D.ledger (disk_of self.new)).written ≤ (D.ledger (disk_of self.old)).written + 65536 }

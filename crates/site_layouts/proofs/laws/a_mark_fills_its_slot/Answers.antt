@@ -1,5 +1,5 @@
-use Rattle.site_layouts.specs.MarkLaws.{length-mark_of}
+use Rattle.site_layouts.specs.MarkLaws.{length-spelling}
 use Rattle.site_layouts.proofs.laws.a_mark_fills_its_slot.Goals as goal
 
 pub returns : goal.returns
-returns c = length-mark_of
+returns c = length-spelling

@@ -1,4 +1,5 @@
-use Rattle.site_layouts.specs.TellsLaws.{one_lane, one_state}
+use Rattle.site_layouts.specs.MarkLaws.{one_state}
+use Rattle.site_layouts.specs.TellsLaws.{one_lane}
 use Rattle.site_layouts.proofs.laws.a_mark_tells_its_state.Goals as goal
 
 pub returns-clause-state : goal.returns-clause-state

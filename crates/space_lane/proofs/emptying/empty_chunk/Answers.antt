@@ -1,9 +1,8 @@
-use Rattle.std.proofs.Common.{◌≡◌, ◌<◌, ◌≤◌, ◌+◌, ◌*◌, ◌∷◌, [], ℕ, List, length, arith, ap, sym, subst, ◌∙◌}
-use mathlib.Core.Logic.{inl, inr}
-use Rattle.site_disk.specs.Bytes.{extent, filled, written}
+use Rattle.std.proofs.Common.{◌≡◌, ◌*◌, ◌∷◌, [], ℕ, List, length, arith, ap, sym, subst, ◌∙◌}
+use mathlib.Core.Logic.{inl}
+use Rattle.site_disk.specs.Bytes.{extent}
 use Rattle.site_disk.specs.BytesLaws.{length-written}
 use Rattle.site_disk.specs.CallsLaws.{on_ok}
-use Rattle.site_disk.specs.Gates.{shut}
 use Rattle.site_disk.specs.GatesLaws.{is_shut}
 use Rattle.gated_slots.specs.Header.{IsClosed}
 use Rattle.before_images.specs.RegionLaws.{saved_closed}

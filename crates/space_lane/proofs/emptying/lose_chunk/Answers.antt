@@ -1,4 +1,4 @@
-use Rattle.std.proofs.Common.{◌≡◌, ◌<◌, ℕ, List, [], ◌∷◌, arith, ap, sym, subst, ◌∙◌}
+use Rattle.std.proofs.Common.{◌≡◌, ℕ, List, [], ◌∷◌, arith, ap, sym, subst, ◌∙◌}
 use Rattle.site_disk.specs.Bytes.{written}
 use Rattle.site_disk.specs.CallsLaws.{on_ok}
 use Rattle.gated_slots.specs.Header.{IsClosed}

@@ -1,7 +1,7 @@
 use Rattle.std.proofs.Common.{◌≡◌, ◌<◌, ◌≤◌, ◌+◌, ◌*◌, ℕ, List, length, arith, sym, subst}
 use Rattle.site_disk.specs.Bytes.{Torn}
 use Rattle.site_disk.specs.BytesLaws.{torn_none}
-use Rattle.site_disk.specs.CallsLaws.{torn_within, uses_more, uses_nothing, uses_write}
+use Rattle.site_disk.specs.CallsLaws.{torn_within, uses_nothing, uses_write}
 use Rattle.site_disk.specs.ImagesLaws.{begins}
 use Rattle.before_images.specs.Saved.{place_of}
 use Rattle.space_pages.specs.Pages.{empty_pages}

@@ -1,8 +1,8 @@
-use Rattle.std.proofs.Common.{◌≡◌, ℕ, List, sym, subst}
+use Rattle.std.proofs.Common.{◌≡◌, ℕ, sym, subst}
 use Rattle.site_disk.specs.Images.{Leaves, OnlyAfter}
 use Rattle.site_disk.specs.Seen.{seen}
 use Rattle.before_images.specs.Saved.{MayPutBack, Stands as ImagesStand, restored}
-use Rattle.lane_ways.specs.Pictures.{images_at, pages_at}
+use Rattle.lane_ways.specs.Pictures.{pages_at}
 use Rattle.space_lane.proofs.StateLemmas.{by_done, images_stand, only_still}
 use Rattle.space_lane.proofs.opening.put_back.Goals as goal
 

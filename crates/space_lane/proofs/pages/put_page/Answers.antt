@@ -1,4 +1,4 @@
-use Rattle.std.proofs.Common.{◌≡◌, ◌≤◌, ◌-◌, ℕ, length, min, arith}
+use Rattle.std.proofs.Common.{◌≡◌, ◌-◌, ℕ, length, min, arith}
 use Rattle.site_disk.specs.Bytes.{Torn}
 use Rattle.site_disk.specs.BytesLaws.{torn_wider}
 use Rattle.site_disk.specs.CallsLaws.{from_unchanged}

@@ -1,8 +1,8 @@
-use Rattle.std.proofs.Common.{◌≡◌, ◌≤◌, ◌<◌, ◌+◌, ◌∷◌, ℕ, List, length, drop, arith, ap, sym, subst, ◌∙◌}
-use mathlib.Core.Logic.{inl, inr}
+use Rattle.std.proofs.Common.{◌≡◌, ◌≤◌, ◌<◌, ℕ, List, length, drop, arith, ap, sym, subst, ◌∙◌}
+use mathlib.Core.Logic.{inr}
 use Rattle.site_disk.specs.Bytes.{Torn}
 use Rattle.site_disk.specs.CallsLaws.{from_known, on_ok}
-use Rattle.site_disk.specs.Images.{IsSynced, Leaves, OnlyAfter}
+use Rattle.site_disk.specs.Images.{OnlyAfter}
 use Rattle.site_disk.specs.Seen.{seen}
 use Rattle.site_disk.specs.SeenLaws.{synced_after}
 use Rattle.gated_slots.specs.Header.{IsClosed}

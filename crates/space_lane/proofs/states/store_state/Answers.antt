@@ -1,5 +1,5 @@
-use Rattle.std.proofs.Common.{◌≡◌, ◌≤◌, ◌<◌, ◌+◌, ℕ, List, length, arith, ap, sym, subst, ◌∙◌}
-use mathlib.Core.Logic.{inl, inr}
+use Rattle.std.proofs.Common.{◌≡◌, ◌≤◌, ◌<◌, ℕ, List, length, arith, ap, ◌∙◌}
+use mathlib.Core.Logic.{inl}
 use Rattle.site_disk.specs.CallsLaws.{on_ok}
 use Rattle.site_disk.specs.GatesLaws.{gate_synced}
 use Rattle.site_disk.specs.Images.{IsSynced, OnlyAfter}
@@ -8,7 +8,7 @@ use Rattle.site_disk.specs.SeenLaws.{synced_after}
 use Rattle.twin_mark.specs.Marks.{Knows}
 use Rattle.twin_mark.specs.MarksLaws.{agrees_synced}
 use Rattle.before_images.specs.Saved.{Drops}
-use Rattle.lane_ways.specs.Pictures.{images_at, mark_at, pages_at}
+use Rattle.lane_ways.specs.Pictures.{images_at, mark_at}
 use Rattle.lane_mark.specs.Layout.{spelling}
 use Rattle.space_lane.proofs.StateLemmas.{drop_sets, drops_here, is_set, knows_still, may_drop_here, may_store_here, store_sets, stores_here, sync_sets}
 use Rattle.space_lane.proofs.states.store_state.Goals as goal

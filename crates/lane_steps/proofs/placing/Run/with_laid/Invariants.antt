@@ -8,6 +8,9 @@ use Rattle.lane_steps.proofs.RunLemmas.{RunsSoFar}
 use Rattle.lane_steps.proofs.placing.Run.with_laid.Given as goal
 
 abbrev pub invariant-loop-change : goal.invariant-loop-change
-invariant-loop-change l = (laid : List Change) → IsRun l.initial.run.commit l.initial.run.count laid → Rises l.initial.run.commit (map change_of l.changes)
-    → length (laid ++ own l.space l.count (map change_of l.changes)) < 2 ^ 32
-    → RunsSoFar l.space l.count (laid ++ own l.space l.count (map change_of l.changes)) (drop l.change-index (map change_of l.changes)) l.run.commit l.run.count
+invariant-loop-change l = record {
+  run : (laid : List Change) → IsRun l.initial.run.commit l.initial.run.count laid → Rises l.initial.run.commit (map change_of l.changes)
+      → length (laid ++ own l.space l.count (map change_of l.changes)) < 2 ^ 32
+      → RunsSoFar l.space l.count (laid ++ own l.space l.count (map change_of l.changes)) (drop l.change-index (map change_of l.changes)) l.run.commit l.run.count;
+  onward : (rest : List Change) → Rises l.initial.run.commit (map change_of l.changes ++ rest) → Rises l.run.commit (drop l.change-index (map change_of l.changes) ++ rest);
+}

@@ -1,9 +1,7 @@
-use Rattle.std.proofs.Common.{◌≡◌, ◌≤◌, ◌<◌, ℕ, List, arith}
+use Rattle.std.proofs.Common.{ℕ, arith}
 use Rattle.site_disk.specs.CallsLaws.{on_ok}
-use Rattle.site_disk.specs.Images.{Leaves}
 use Rattle.site_disk.specs.Seen.{seen}
 use Rattle.space_lane.specs.Lanes.{IsEmptied}
-use Rattle.space_lane.specs.Stops.{MayFormat}
 use Rattle.space_lane.proofs.LaneLemmas.{empty_stand, emptied_by}
 use Rattle.space_lane.proofs.StateLemmas.{cause_after, empty_formats, lose_formats, reopen_formats}
 use Rattle.space_lane.proofs.lane.Lane.format.Goals as goal

@@ -1,9 +1,9 @@
-use Rattle.std.proofs.Common.{◌≡◌, ◌≤◌, ◌<◌, ◌+◌, ◌*◌, ℕ, List, length, refl, arith, ap, sym, subst, ◌∙◌}
+use Rattle.std.proofs.Common.{◌≡◌, ◌≤◌, ℕ, List, length, refl, arith, ap, sym, subst, ◌∙◌}
 use Rattle.site_disk.specs.Images.{IsSynced, OnlyAfter}
 use Rattle.site_disk.specs.Seen.{seen}
 use Rattle.twin_mark.specs.Marks.{Knows}
 use Rattle.before_images.specs.Saved.{ImagesView, place_of}
-use Rattle.lane_ways.specs.Pictures.{mark_at, pages_at}
+use Rattle.lane_ways.specs.Pictures.{pages_at}
 use Rattle.space_lane.specs.Chunks.{settled}
 use Rattle.space_lane.specs.Stops.{MaySettle}
 use Rattle.space_lane.proofs.LaneLemmas.{holds_settled, knows_settled, same_restores, settling_restores, stands_of}

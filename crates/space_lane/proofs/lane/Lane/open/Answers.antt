@@ -1,4 +1,4 @@
-use Rattle.std.proofs.Common.{◌≡◌, ◌≤◌, ◌<◌, ◌+◌, ◌*◌, ℕ, List, length, arith, ap, sym, subst}
+use Rattle.std.proofs.Common.{◌≡◌, ℕ, List, length, arith, ap, sym, subst}
 use Rattle.site_disk.specs.Images.{IsSynced}
 use Rattle.site_disk.specs.Seen.{seen}
 use Rattle.site_disk.specs.SeenLaws.{synced_after}
@@ -35,3 +35,6 @@ returns-clause-crash g c tells long =
     synced_after (seen g.D.Disk mid) e (g.met.D.Disk.now_counts mid) c.has_header.ensures.ledger.no_later (c.in_ok-has_header.ensures.durable tells) in
     restores_after c.args.pages e (g.D.Disk.image lane.disk) (g.D.Disk.image mid) (g.D.Disk.image c.load.new.self.disk) c.has_header.ensures.crash
     (c.load.ensures.crash tells (omega (arith, long, ap (λ (l : List ℕ). length l) same)) synced)
+
+pub returns-clause-unheaded : goal.returns-clause-unheaded
+returns-clause-unheaded g c tells none = absurd (none ((c.in_ok-has_header.ensures.found tells).0 c.if-not-branch.false))

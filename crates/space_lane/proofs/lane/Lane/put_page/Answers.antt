@@ -1,4 +1,4 @@
-use Rattle.std.proofs.Common.{◌≡◌, ◌≤◌, ◌<◌, ◌*◌, ◌+◌, ℕ, List, length, arith}
+use Rattle.std.proofs.Common.{◌≤◌, ◌<◌, ℕ, length, arith}
 use Rattle.site_disk.specs.CallsLaws.{on_ok}
 use Rattle.site_disk.specs.Seen.{seen}
 use Rattle.before_images.specs.Saved.{place_of}

@@ -1,7 +1,6 @@
-use Rattle.std.proofs.Common.{◌≡◌, ◌≤◌, ◌*◌, ◌+◌, ℕ, List, length, refl, arith, ap, ◌∙◌}
+use Rattle.std.proofs.Common.{◌≤◌, ℕ, length, refl, arith, ap, ◌∙◌}
 use Rattle.site_disk.specs.Seen.{seen}
 use Rattle.before_images.specs.Saved.{ImagesView, place_of}
-use Rattle.lane_mark.specs.Layout.{spelling}
 use Rattle.lane_ways.specs.Pictures.{pages_at}
 use Rattle.space_lane.proofs.LaneLemmas.{stands_of}
 use Rattle.space_lane.proofs.StateLemmas.{holds_set, settled_none}

@@ -1,4 +1,4 @@
-use Rattle.std.proofs.Common.{◌≡◌, ◌≤◌, ℕ, List, arith, sym, subst}
+use Rattle.std.proofs.Common.{ℕ, List, arith, sym, subst}
 use Rattle.site_disk.specs.CallsLaws.{both_on_ok}
 use Rattle.site_disk.specs.Seen.{seen}
 use Rattle.site_disk.specs.SeenLaws.{synced_after}

@@ -1,0 +1,7 @@
+pub mod Answers
+pub mod Strays
+pub mod Readers
+pub mod Logs
+pub mod FilesLaws
+pub mod ChangesLaws
+pub mod CountLaws

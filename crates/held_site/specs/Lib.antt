@@ -1,0 +1,4 @@
+pub mod Pages
+pub mod PartLaws
+pub mod StrayLaws
+pub mod HeldLaws

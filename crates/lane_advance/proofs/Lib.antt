@@ -1,0 +1,4 @@
+pub mod DiskLemmas
+pub mod LoopLemmas
+pub mod PassLemmas
+pub mod WayLemmas

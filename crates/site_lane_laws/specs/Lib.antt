@@ -1,0 +1,5 @@
+pub mod Agreements
+pub mod OpeningLaws
+pub mod AdvancingLaws
+pub mod PhaseLaws
+pub mod RefusalLaws

@@ -1,0 +1,4 @@
+pub mod OneLemmas
+pub mod OpeningLemmas
+pub mod SyncingLemmas
+pub mod AdvancingLemmas

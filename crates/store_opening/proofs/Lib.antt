@@ -1,0 +1,9 @@
+pub mod LoopLemmas
+pub mod LiveLemmas
+pub mod OpeningLemmas
+pub mod StoreLemmas
+pub mod AgreeLemmas
+pub mod StepLemmas
+pub mod FormatLemmas
+pub mod HoldingLemmas
+pub mod MakingLemmas
