@@ -223,6 +223,7 @@ impl<D: Disk> Catalogue<D> {
         ensures opened { OnOk result (IsOpen self.new) }
         ensures made { IsMade self.new }
         ensures capacity { capacity_of self.new ≡ capacity_of self.old }
+        ensures is_head { IfOk result (λ head. IsHead (head_of head)) }
         ensures head { IsTrue D.is_modelled → IfOk result (λ head. IsHead (head_of head) × HasHeader (catalogue_tail (head_of head)) (D.bytes (cat_of self.old))) }
         ensures mark { IsTrue D.is_modelled → OnOk result (NamesArea (D.bytes (cat_of self.old))) }
         ensures spare { IsTrue D.is_modelled → IfOk result (λ head. HasHeader (spare_tail head.site) (D.bytes (spare_of self.old))) }

@@ -6,6 +6,7 @@ ghost use Rattle.site_disk.specs.Images.{IsSynced, Leaves, OnlyAfter, Unchanged}
 ghost use Rattle.site_disk.specs.Ledger.{MayUse, Uses};
 ghost use Rattle.site_disk.specs.Seen.{seen};
 ghost use Rattle.gated_slots.specs.Slots.{Area, used, place_of, Agrees as SlotsAgree};
+ghost use Rattle.site_headers.specs.Heads.{IsHead};
 ghost use Rattle.site_headers.specs.Headers.{spare_tail, HasHeader};
 ghost use Rattle.site_headers.specs.Views.{head_of};
 ghost use Rattle.gated_slots.specs.Header.{IsHeader};
@@ -44,6 +45,7 @@ const BAD_FRONT: CatFault = CatFault::BadRecord {
 // The head of the site that the catalogue's header has.
 fn read_head<D: Disk>(alloc: Global, disk: &mut D, era: &Era) -> Result<SiteHead, CatFault>
     requires { MayUse era.now (D.ledger disk.old) }
+    ensures is_head { IfOk result (λ head. IsHead (head_of head)) }
     ensures head { IsTrue D.is_modelled → IfOk result (λ head. HasHead (head_of head) (D.bytes disk.old)) }
     ensures none { IsTrue D.is_modelled → IsErrOf result CatFault.NotFormatted → HasNoHead (D.bytes disk.old) }
     ensures only { IfErr result (λ fault. IsRefusal fault → fault ≡ CatFault.NotFormatted) }
@@ -234,6 +236,7 @@ fn read_front<D: Disk>(
     requires era { MayUse era.now (D.ledger disk.old) }
     requires place { mark.old.base ≡ 4096 }
     ensures base { mark.new.base ≡ mark.old.base }
+    ensures is_head { IfOk result (λ head. IsHead (head_of head)) }
     ensures head { IsTrue D.is_modelled → IfOk result (λ head. HasHead (head_of head) (D.bytes disk.old)) }
     ensures named { IsTrue D.is_modelled → OnOk result (NamesArea (D.bytes disk.old)) }
     ensures starved { IsTrue D.is_modelled → IsErrOf result CatFault.OutOfMemory → IsHeader (D.bytes disk.old) }
@@ -264,6 +267,7 @@ fn read_disk<D: Disk>(
 
     ensures area { slots.new.area ≡ slots.old.area }
     ensures base { mark.new.base ≡ mark.old.base }
+    ensures is_head { IfOk result (λ found. IsHead (head_of found.0)) }
     ensures head { IsTrue D.is_modelled → IfOk result (λ found. HasHead (head_of found.0) (D.bytes disk.old)) }
     ensures named { IsTrue D.is_modelled → OnOk result (NamesArea (D.bytes disk.old)) }
     ensures journal { IsTrue D.is_modelled → IfOk result (λ found. Journals slots.old.area (contents_of (state_of found.1)) (D.bytes disk.old)) }
@@ -317,6 +321,7 @@ pub fn read_catalogue<D: Disk>(
     ensures area { IfOk result (λ found. found.slots.area ≡ area_of capacity) }
     ensures base { IfOk result (λ found. found.mark.base ≡ 4096) }
     ensures sound { IfOk result (λ found. AreContents (contents_found found)) }
+    ensures is_head { IfOk result (λ found. IsHead (head_of found.head)) }
     ensures head { IsTrue D.is_modelled → IfOk result (λ found. HasHead (head_of found.head) (D.bytes disk.old)) }
     ensures named { IsTrue D.is_modelled → OnOk result (NamesArea (D.bytes disk.old)) }
     ensures journal { IsTrue D.is_modelled → IfOk result (λ found. Journals (area_of capacity) (contents_found found) (D.bytes disk.old)) }
