@@ -1,0 +1,5 @@
+pub mod LaneLemmas
+pub mod MadeLemmas
+pub mod FaultLemmas
+pub mod FrameLemmas
+pub mod CheckpointLemmas
