@@ -1,0 +1,10 @@
+pub mod ReadLemmas
+pub mod PartLemmas
+pub mod RefusalLemmas
+pub mod StandLemmas
+pub mod FailureLemmas
+pub mod LogLemmas
+pub mod LogStandLemmas
+pub mod AnswerLemmas
+pub mod OpenLemmas
+pub mod LogOpenLemmas
