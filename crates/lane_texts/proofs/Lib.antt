@@ -1,0 +1,4 @@
+pub mod PageLemmas
+pub mod ListingLemmas
+pub mod TextLemmas
+pub mod HistoryLemmas

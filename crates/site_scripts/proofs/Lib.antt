@@ -1,0 +1,8 @@
+mod AppendLemmas
+mod EndLemmas
+mod LinesLemmas
+mod OpenLemmas
+mod RunLemmas
+mod StageLemmas
+mod StepLemmas
+mod TakenLemmas
