@@ -1,0 +1,4 @@
+pub mod Starts
+pub mod Reports
+pub mod Forms
+pub mod PassingLaws

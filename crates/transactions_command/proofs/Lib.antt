@@ -1,0 +1,5 @@
+mod CheckLemmas
+mod EnterLemmas
+mod RefusalLemmas
+mod ScriptLemmas
+mod FormLemmas
