@@ -5,3 +5,4 @@ pub mod QueryingLemmas
 pub mod SendingLemmas
 pub mod VotingLemmas
 pub mod FetchingLemmas
+mod OpenLemmas

@@ -1,6 +1,7 @@
 -- What contracts see of a session.
-use Rattle.std.specs.Prelude.{◌≡◌, ℕ, Bool, List}
-use Rattle.object_volume.specs.Volumes.{number_of, IsOpen, IsIdle, IsSending}
+use Rattle.std.specs.Prelude.{◌≡◌, ℕ, ◌<◌, ◌≤◌, Bool, List, length}
+use Rattle.block_chain.specs.Blocks.{times}
+use Rattle.object_volume.specs.Volumes.{disk_of, number_of, blocks_in, open_blocks, IsOpen, IsIdle, IsSending}
 use Rattle.object_volume.specs.declared.volume.Volume.{Volume}
 use Rattle.session_machine.specs.States.{Draft, State, none, idle, waiting, sending, querying, getting, broken}
 use Rattle.bsa_session.specs.Views.{view_of}
@@ -31,3 +32,9 @@ module _ {D : Type 0} where
   Suits tells bytes (querying draft rest) volume = Rests draft volume
   Suits tells bytes (getting draft copy at) volume = Rests draft volume
   Suits tells bytes broken volume = Unit {0}
+
+  -- a call opens no block to writing; the volume has as many blocks, and its disk is no shorter
+  pub record LeavesOpen (bytes : D → List ℕ) (old new : Volume D) : Type 0 where
+    pub among : (block : ℕ) → 0 < times block (open_blocks new) → 0 < times block (open_blocks old)
+    pub blocks : blocks_in new ≡ blocks_in old
+    pub no_shorter : length (bytes (disk_of old)) ≤ length (bytes (disk_of new))

@@ -17,6 +17,7 @@ ghost use Rattle.catalogue_journal.specs.Catalogues.{additions_of};
 ghost use Rattle.bsa_session.specs.Ended.{last_runs, runs_of_last, IsSentAs};
 ghost use Rattle.bsa_session.specs.Staging.{AddsLast, IsEndAnswer};
 ghost use Rattle.bsa_session.specs.Making.{IsMadeBy};
+ghost use Rattle.bsa_session.specs.Sessions.{LeavesOpen};
 ghost use Rattle.bsa_descriptor.specs.declared.descriptor.Descriptor.{Descriptor as Descriptor-of};
 
 use crate::Session;
@@ -74,6 +75,7 @@ fn end_object<D: Disk>(
     ensures holds { OnOk result ((objects : List (List Run-of-blocks))
         → Holds volume.old objects → Holds volume.new (runs_of_last (additions_of transaction.new.staged) ∷ objects)) }
     ensures free { OnOk result (free_of volume.new ≡ free_of volume.old) }
+    ensures leaves { IsTrue D.is_modelled → OnOk result (LeavesOpen D.bytes volume.old volume.new) }
     ensures failed { (volume_ : ℕ) → IsErrOf result (BsaRc.AccessFailure (Access.Volume volume_))
         → Rose (D.ledger (disk_of volume.old)).faults (D.ledger (disk_of volume.new)).faults }
 
@@ -118,6 +120,7 @@ impl Session {
         ensures begun { result ≡ BsaRc.Success → Sends D.is_modelled D.bytes volume.new [] }
         ensures disk { disk_of volume.new ≡ disk_of volume.old }
         ensures free { free_of volume.new ≡ free_of volume.old }
+        ensures leaves { result ≡ BsaRc.Success → LeavesOpen D.bytes volume.old volume.new }
         ensures holds { (objects : List (List Run-of-blocks)) → Holds volume.old objects → Holds volume.new objects }
     {
         let State::Open(transaction) = &mut self.state else {
@@ -151,6 +154,7 @@ impl Session {
             ↔ (length (free_of volume.old) < blocks_for (length message + length bytes.now) - blocks_for (length message)) }
         ensures untaken { result ≡ BsaRc.NoResources Lack.Blocks → volume.new ≡ volume.old }
         ensures invalid { result ≡ BsaRc.InvalidCallSequence → volume.new ≡ volume.old }
+        ensures leaves { IsTrue D.is_modelled → result ≡ BsaRc.Success → LeavesOpen D.bytes volume.old volume.new }
         ensures holds { result ≡ BsaRc.Success
             → (objects : List (List Run-of-blocks)) → Holds volume.old objects → Holds volume.new objects }
         ensures failed { (volume_ : ℕ) → result ≡ BsaRc.AccessFailure (Access.Volume volume_)
@@ -200,6 +204,7 @@ impl Session {
         ensures holds { IfOk result (λ ended. IfSome ended (λ sent. (objects : List (List Run-of-blocks))
             → Holds volume.old objects → Holds volume.new (last_runs (state_of self.new) ∷ objects))) }
         ensures free { OnOk result (free_of volume.new ≡ free_of volume.old) }
+        ensures leaves { IsTrue D.is_modelled → OnOk result (LeavesOpen D.bytes volume.old volume.new) }
         ensures failed { (volume_ : ℕ) → IsErrOf result (BsaRc.AccessFailure (Access.Volume volume_))
             → Rose (D.ledger (disk_of volume.old)).faults (D.ledger (disk_of volume.new)).faults }
 

@@ -62,6 +62,9 @@ impl Session {
 
         ensures committed { vote ≡ 1 → OnOk result (contents_in store.new.cat
             ≡ ended (deleted_in (state_of self.old)) (added_in (state_of self.old)) (contents_in store.old.cat)) }
+        ensures used { vote ≡ 1 → OnOk result (used_of store.new.cat
+            ≡ used_of store.old.cat + slots_wanted (deleted_in (state_of self.old)) (added_in (state_of self.old))) }
+        ensures capacity { capacity_of store.new.cat ≡ capacity_of store.old.cat }
         ensures aborted { vote ≢ 1 → store.new.cat ≡ store.old.cat }
         ensures stands { IsTrue D.is_modelled → Stands (seen D.Disk (cat_of store.old.cat)) store.old.cat
             → OnOk result (Stands (seen D.Disk (cat_of store.new.cat)) store.new.cat) }
@@ -80,7 +83,8 @@ impl Session {
 
         // No image of an era up to the call's gains the transaction, and each of a later one has all of it or nothing.
         ensures ends { vote ≡ 1 → IsTrue D.is_modelled → Stands (seen D.Disk (cat_of store.old.cat)) store.old.cat
-            → Ends (era.old.number + 1) (capacity_of store.old.cat) (contents_in store.old.cat)
+            → Ends (era.old.number + 1) (capacity_of store.old.cat)
+            (slots_wanted (deleted_in (state_of self.old)) (added_in (state_of self.old))) (contents_in store.old.cat)
             (ended (deleted_in (state_of self.old)) (added_in (state_of self.old)) (contents_in store.old.cat))
             (D.image (cat_of store.old.cat)) (D.image (spare_of store.old.cat)) (D.image (cat_of store.new.cat)) (D.image (spare_of store.new.cat)) }
         ensures durable { vote ≡ 1 → IsTrue D.is_modelled → 0 < slots_wanted (deleted_in (state_of self.old)) (added_in (state_of self.old))
@@ -125,6 +129,9 @@ impl Session {
 
         ensures committed { OnOk result (contents_in store.new.cat
             ≡ ended (deleted_in (state_of self.old)) (added_in (state_of self.old)) (contents_in store.old.cat)) }
+        ensures used { OnOk result (used_of store.new.cat
+            ≡ used_of store.old.cat + slots_wanted (deleted_in (state_of self.old)) (added_in (state_of self.old))) }
+        ensures capacity { capacity_of store.new.cat ≡ capacity_of store.old.cat }
         ensures stands { IsTrue D.is_modelled → Stands (seen D.Disk (cat_of store.old.cat)) store.old.cat
             → OnOk result (Stands (seen D.Disk (cat_of store.new.cat)) store.new.cat) }
         ensures returned { OnOk result (AllGiveBack D.is_modelled D.bytes
@@ -141,7 +148,8 @@ impl Session {
         ensures spare { spare_of store.new.cat ≡ spare_of store.old.cat }
 
         ensures ends { IsTrue D.is_modelled → Stands (seen D.Disk (cat_of store.old.cat)) store.old.cat
-            → Ends (era.old.number + 1) (capacity_of store.old.cat) (contents_in store.old.cat)
+            → Ends (era.old.number + 1) (capacity_of store.old.cat)
+            (slots_wanted (deleted_in (state_of self.old)) (added_in (state_of self.old))) (contents_in store.old.cat)
             (ended (deleted_in (state_of self.old)) (added_in (state_of self.old)) (contents_in store.old.cat))
             (D.image (cat_of store.old.cat)) (D.image (spare_of store.old.cat)) (D.image (cat_of store.new.cat)) (D.image (spare_of store.new.cat)) }
         ensures durable { IsTrue D.is_modelled → 0 < slots_wanted (deleted_in (state_of self.old)) (added_in (state_of self.old))

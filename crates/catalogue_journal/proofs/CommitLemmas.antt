@@ -215,17 +215,21 @@ ended_journal capacity copies additions before old new batch is gains stands =
 
 -- each image of a commit has the journal from before it or the one behind it
 pub may_end : (capacity : ℕ) (copies : List ℕ) (additions : List Addition) (before : Contents) (old new batch : List ℕ) → IsBatch copies additions before batch
-    → MayGain (area_of capacity) (slots_wanted copies additions) batch old new → MayEnd (area_of capacity) before (ended copies additions before) old new
+    → MayGain (area_of capacity) (slots_wanted copies additions) batch old new
+    → MayEnd (area_of capacity) (slots_wanted copies additions) before (ended copies additions before) old new
 may_end capacity copies additions before old new batch is may = record {
-  contents = λ stands. ⊎_elim
-      (λ keeps. inl (kept capacity before old new keeps.used keeps.held keeps.no_shorter stands))
-      (λ gains. inr (ended_journal capacity copies additions before old new batch is gains stands)) may.slots;
+  contents = λ n has. ⊎_elim
+      (λ keeps. inl (record { journal = kept capacity before old new keeps.used keeps.held keeps.no_shorter has.journal; used = keeps.used ∙ has.used }))
+      (λ gains. inr (record {
+        journal = ended_journal capacity copies additions before old new batch is gains has.journal;
+        used = gains.used ∙ ap (λ (k : ℕ). k + slots_wanted copies additions) has.used;
+      })) may.slots;
   elsewhere = may.elsewhere;
   no_shorter = may.no_shorter;
 }
 
-pub ends_none : (area : Area) (before behind : Contents) (bytes : List ℕ) → MayEnd area before behind bytes bytes
-ends_none area before behind bytes = record { contents = λ stands. inl stands; elsewhere = λ from len gates slots. refl; no_shorter = omega arith }
+pub ends_none : (area : Area) (wanted : ℕ) (before behind : Contents) (bytes : List ℕ) → MayEnd area wanted before behind bytes bytes
+ends_none area wanted before behind bytes = record { contents = λ n has. inl has; elsewhere = λ from len gates slots. refl; no_shorter = omega arith }
 
 -- the calls of a commit
 
@@ -257,9 +261,9 @@ module _ {capacity : ℕ} {copies : List ℕ} {additions : List Addition} {befor
         (subst (λ (k : ℕ). Gains view.area k batch old new) (batch_count is) (gains reaches))) stands
 
     pub batch_stops : {e : ℕ} {images after : ℕ → List ℕ → Type 0} → (Reaches view old → Leaves e (MayGain view.area (length batch / 4096) batch) images after)
-        → Leaves e (MayEnd (area_of capacity) before (ended copies additions before)) images after
+        → Leaves e (MayEnd (area_of capacity) (slots_wanted copies additions) before (ended copies additions before)) images after
     batch_stops {e = e} {images = images} {after = after} call =
-        weaker (MayEnd (area_of capacity) before (ended copies additions before)) (MayGain view.area (length batch / 4096) batch) e images images after (call reaches)
+        weaker (MayEnd (area_of capacity) (slots_wanted copies additions) before (ended copies additions before)) (MayGain view.area (length batch / 4096) batch) e images images after (call reaches)
         (λ f d c lt image may. may_end capacity copies additions before d c batch is
         (subst (λ (a : Area). MayGain a (slots_wanted copies additions) batch d c) area_is (subst (λ (k : ℕ). MayGain view.area k batch d c) (batch_count is) may)))
 

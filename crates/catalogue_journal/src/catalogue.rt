@@ -335,7 +335,7 @@ impl<D: Disk> Catalogue<D> {
         // Later eras of the commit may follow the first, with the same key.
         ensures era { TakesEras era.old era.new }
         ensures ends { IsTrue D.is_modelled → Stands (seen D.Disk (cat_of self.old)) self.old
-            → Ends era.old.number (capacity_of self.old) (contents_in self.old) (ended_by staged.now (contents_in self.old))
+            → Ends era.old.number (capacity_of self.old) (wanted_by staged.now) (contents_in self.old) (ended_by staged.now (contents_in self.old))
             (D.image (cat_of self.old)) (D.image (spare_of self.old)) (D.image (cat_of self.new)) (D.image (spare_of self.new)) }
 
         ensures ledger { Spends era.old era.new 0 (73729 + 4096 * (used_of self.old + wanted_by staged.now))

@@ -136,9 +136,10 @@ module _ {D : Type 0} where
 -- ---- images
 
 -- a call that stops before it does anything
-pub ends_before : {e capacity : ℕ} {before behind : Contents} {cat spare : ℕ → List ℕ → Type 0} → Ends e capacity before behind cat spare cat spare
+pub ends_before : {e capacity wanted : ℕ} {before behind : Contents} {cat spare : ℕ → List ℕ → Type 0} → Ends e capacity wanted before behind cat spare cat spare
 ends_before = record {
   either = λ head show f c d le image other. inl (show f f c d le le image other);
+  counted = λ taken has f c le image. inl (has f c le image);
   earlier = λ f c lt image. image;
   spare_earlier = λ f d lt image. image;
 }

@@ -67,7 +67,7 @@ impl<D: Disk> Store<D> {
 
         ensures era { PassesEras era.old era.new }
         ensures ends { IsTrue D.is_modelled → Stands (seen D.Disk (cat_of self.old.cat)) self.old.cat
-            → Ends (era.old.number + 1) (capacity_of self.old.cat) (contents_in self.old.cat) (ended_by staged.now (contents_in self.old.cat))
+            → Ends (era.old.number + 1) (capacity_of self.old.cat) (wanted_by staged.now) (contents_in self.old.cat) (ended_by staged.now (contents_in self.old.cat))
             (D.image (cat_of self.old.cat)) (D.image (spare_of self.old.cat)) (D.image (cat_of self.new.cat)) (D.image (spare_of self.new.cat)) }
         ensures ledger { Spends era.old era.new 0 (73729 + 4096 * (used_of self.old.cat + wanted_by staged.now))
             (D.ledger (cat_of self.old.cat)) (D.ledger (cat_of self.new.cat)) }

@@ -6,7 +6,8 @@ use Rattle.catalogue_journal.specs.Views.{addition_of}
 use Rattle.object_volume.specs.Objects.{object}
 use Rattle.bsa_session.specs.Ended.{runs_of_last}
 use Rattle.object_store.specs.Holdings.{Holds}
-use Rattle.bsa_session.proofs.HoldingLemmas.{holds_ended}
+use Rattle.bsa_session.proofs.HoldingLemmas.{holds_ended, idle_sends}
+use Rattle.bsa_session.proofs.OpenLemmas.{leaves_free}
 use Rattle.bsa_session.proofs.SendingLemmas.{runs_of_last-push}
 use Rattle.bsa_session.proofs.sending.end_object.Goals as goal
 use Rattle.bsa_session.proofs.sending.end_object.Goals.{in-Ok-push, in-Err}
@@ -59,5 +60,15 @@ returns-clause-holds g c =
           subst (λ (runs : List Run). Holds c.end.new.self (runs ∷ objects)) (sym last)
           (holds_ended c.args.volume.now c.end.new.self sent.runs.items objects (λ runs live. c.in-Ok.ensures.others runs live) c.in-Ok.ensures.live c.in-Ok.ensures.blocks
           c.in-Ok.ensures.free c.in-Ok.ensures.idle c.in-Ok.ensures.listed holds))
+      | in-Err w ↦ rw (w.result-is) tt
+    ]
+
+pub returns-clause-leaves : goal.returns-clause-leaves
+returns-clause-leaves g c tells =
+    elim c.match-push.branch [
+      | in-Ok-push w ↦
+          rw (w.result-is)
+          (leaves_free g.D.Disk.bytes c.args.volume.now c.end.new.self c.in-Ok.ensures.free (idle_sends c.end.new.self c.in-Ok.ensures.idle) c.in-Ok.ensures.blocks
+          (c.in-Ok.ensures.spared tells).no_shorter)
       | in-Err w ↦ rw (w.result-is) tt
     ]

@@ -1,7 +1,7 @@
 use Rattle.std.proofs.Common.{◌≡◌, ◌+◌, sym, subst}
 use Rattle.catalogue_journal.specs.Catalogues.{cat_of, spare_of, capacity_of, objects_of, contents_in}
 use Rattle.catalogue_journal.specs.Commits.{Ends}
-use Rattle.catalogue_journal.specs.Transactions.{ended}
+use Rattle.catalogue_journal.specs.Transactions.{ended, slots_wanted}
 use Rattle.object_store.specs.Endings.{places, HoldAll, HoldWith}
 use Rattle.object_store.specs.Returns.{AllGiveBack}
 use Rattle.session_machine.specs.Conditions.{IsSound, IsSoundDraft}
@@ -45,7 +45,7 @@ returns-in-Ok-clause-ends g c tells stands =
     let was : state_of c.args.self.now ≡ machine.waiting (draft_of t) = waiting_view c.args.self.now.state t c.take_transaction-transaction.ensures.taken c.requires.waiting in
     let cat = c.args.store.now.cat in
     let contents = contents_in cat in
-    subst (λ (s : machine.State). Ends (c.args.era.now.number + 1) (capacity_of cat) contents (ended (deleted_in s) (added_in s) contents)
+    subst (λ (s : machine.State). Ends (c.args.era.now.number + 1) (capacity_of cat) (slots_wanted (deleted_in s) (added_in s)) contents (ended (deleted_in s) (added_in s) contents)
     (g.D.Disk.image (cat_of cat)) (g.D.Disk.image (spare_of cat)) (g.D.Disk.image (cat_of c.commit.new.self.cat)) (g.D.Disk.image (spare_of c.commit.new.self.cat)))
     (sym was) (c.commit.ensures.ends tells stands)
 
@@ -55,7 +55,7 @@ returns-in-Err-TooManyObjects-clause-ends g c tells stands =
     let was : state_of c.args.self.now ≡ machine.waiting (draft_of t) = waiting_view c.args.self.now.state t c.take_transaction-transaction.ensures.taken c.requires.waiting in
     let cat = c.args.store.now.cat in
     let contents = contents_in cat in
-    subst (λ (s : machine.State). Ends (c.args.era.now.number + 1) (capacity_of cat) contents (ended (deleted_in s) (added_in s) contents)
+    subst (λ (s : machine.State). Ends (c.args.era.now.number + 1) (capacity_of cat) (slots_wanted (deleted_in s) (added_in s)) contents (ended (deleted_in s) (added_in s) contents)
     (g.D.Disk.image (cat_of cat)) (g.D.Disk.image (spare_of cat)) (g.D.Disk.image (cat_of c.commit.new.self.cat)) (g.D.Disk.image (spare_of c.commit.new.self.cat)))
     (sym was) (c.commit.ensures.ends tells stands)
 
@@ -65,7 +65,7 @@ returns-in-Err-CatalogueFull-clause-ends g c tells stands =
     let was : state_of c.args.self.now ≡ machine.waiting (draft_of t) = waiting_view c.args.self.now.state t c.take_transaction-transaction.ensures.taken c.requires.waiting in
     let cat = c.args.store.now.cat in
     let contents = contents_in cat in
-    subst (λ (s : machine.State). Ends (c.args.era.now.number + 1) (capacity_of cat) contents (ended (deleted_in s) (added_in s) contents)
+    subst (λ (s : machine.State). Ends (c.args.era.now.number + 1) (capacity_of cat) (slots_wanted (deleted_in s) (added_in s)) contents (ended (deleted_in s) (added_in s) contents)
     (g.D.Disk.image (cat_of cat)) (g.D.Disk.image (spare_of cat)) (g.D.Disk.image (cat_of c.commit.new.self.cat)) (g.D.Disk.image (spare_of c.commit.new.self.cat)))
     (sym was) (c.commit.ensures.ends tells stands)
 
@@ -75,7 +75,7 @@ returns-in-Err-Failed-false-clause-ends g c tells stands =
     let was : state_of c.args.self.now ≡ machine.waiting (draft_of t) = waiting_view c.args.self.now.state t c.take_transaction-transaction.ensures.taken c.requires.waiting in
     let cat = c.args.store.now.cat in
     let contents = contents_in cat in
-    subst (λ (s : machine.State). Ends (c.args.era.now.number + 1) (capacity_of cat) contents (ended (deleted_in s) (added_in s) contents)
+    subst (λ (s : machine.State). Ends (c.args.era.now.number + 1) (capacity_of cat) (slots_wanted (deleted_in s) (added_in s)) contents (ended (deleted_in s) (added_in s) contents)
     (g.D.Disk.image (cat_of cat)) (g.D.Disk.image (spare_of cat)) (g.D.Disk.image (cat_of c.commit.new.self.cat)) (g.D.Disk.image (spare_of c.commit.new.self.cat)))
     (sym was) (c.commit.ensures.ends tells stands)
 
@@ -85,6 +85,6 @@ returns-in-Err-OutOfMemory-clause-ends g c tells stands =
     let was : state_of c.args.self.now ≡ machine.waiting (draft_of t) = waiting_view c.args.self.now.state t c.take_transaction-transaction.ensures.taken c.requires.waiting in
     let cat = c.args.store.now.cat in
     let contents = contents_in cat in
-    subst (λ (s : machine.State). Ends (c.args.era.now.number + 1) (capacity_of cat) contents (ended (deleted_in s) (added_in s) contents)
+    subst (λ (s : machine.State). Ends (c.args.era.now.number + 1) (capacity_of cat) (slots_wanted (deleted_in s) (added_in s)) contents (ended (deleted_in s) (added_in s) contents)
     (g.D.Disk.image (cat_of cat)) (g.D.Disk.image (spare_of cat)) (g.D.Disk.image (cat_of c.commit.new.self.cat)) (g.D.Disk.image (spare_of c.commit.new.self.cat)))
     (sym was) (c.commit.ensures.ends tells stands)

@@ -1,4 +1,5 @@
-use Rattle.std.proofs.Common.{◌∙◌, sym, subst}
+use Rattle.std.proofs.Common.{◌∙◌, sym, subst, ap, arith, length}
+use Rattle.bsa_session.proofs.OpenLemmas.{leaves_free}
 use Rattle.session_machine.specs.States as machine
 use Rattle.bsa_session.specs.Sessions.{Suits, Rests}
 use Rattle.bsa_session.specs.Views.{draft_of}
@@ -13,3 +14,7 @@ returns-clause-holds g c objects holds =
     let view = open_view c.args.self.now.state c.in-Open.transaction Waiting c.in-Open.is c.in-Waiting.is in
     let rests : Rests (draft_of c.in-Open.transaction) volume = subst (λ (s : machine.State). Suits g.D.Disk.is_modelled g.D.Disk.bytes s volume) view c.requires.volume in
     holds_again volume c.begin.new.self objects c.begin.ensures.live c.begin.ensures.blocks c.begin.ensures.free (c.begin.ensures.sent ∙ sym (idle_sends volume rests.idle)) holds
+
+pub returns-clause-leaves : goal.returns-clause-leaves
+returns-clause-leaves g c ok =
+    leaves_free g.D.Disk.bytes c.args.volume.now c.begin.new.self c.begin.ensures.free c.begin.ensures.sent c.begin.ensures.blocks (omega (arith, ap (λ (d : _). length (g.D.Disk.bytes d)) c.begin.ensures.disk))

@@ -33,8 +33,8 @@ counted deletions {objects = objects} sums same lens all =
     )
 
 -- where nothing is written
-nothing : (area : Area) (before behind : Contents) (e : ℕ) (images : ℕ → List ℕ → Type 0) → Leaves e (MayEnd area before behind) images images
-nothing area before behind e images = begins (MayEnd area before behind) (MayEnd area before behind) e images images images (λ (d : List ℕ). ends_none area before behind d)
+nothing : (area : Area) (wanted : ℕ) (before behind : Contents) (e : ℕ) (images : ℕ → List ℕ → Type 0) → Leaves e (MayEnd area wanted before behind) images images
+nothing area wanted before behind e images = begins (MayEnd area wanted before behind) (MayEnd area wanted before behind) e images images images (λ (d : List ℕ). ends_none area wanted before behind d)
 
 pub returns-then-slots-eq0-clause-ids : goal.returns-then-slots-eq0-clause-ids
 returns-then-slots-eq0-clause-ids g c =
@@ -58,7 +58,7 @@ returns-then-slots-eq0-clause-durable g c tells some =
     absurd (omega (arith, wanted, c.if-slots-eq0.true, some))
 
 pub returns-then-slots-eq0-clause-ends : goal.returns-then-slots-eq0-clause-ends
-returns-then-slots-eq0-clause-ends g c tells stands = ends_of (nothing _ _ _ _ _)
+returns-then-slots-eq0-clause-ends g c tells stands = ends_of (nothing _ _ _ _ _ _)
 
 pub prepare-requires-clause-few : goal.prepare-requires-clause-few
 prepare-requires-clause-few g c =
@@ -67,7 +67,7 @@ prepare-requires-clause-few g c =
     omega (arith, wanted, (c.in_default.ensures.none refl).room, c.requires.opened.made.few)
 
 pub returns-in_err-ready-clause-ends : goal.returns-in_err-ready-clause-ends
-returns-in_err-ready-clause-ends g c tells stands = ends_of (nothing _ _ _ _ _)
+returns-in_err-ready-clause-ends g c tells stands = ends_of (nothing _ _ _ _ _ _)
 
 pub returns-in_err-ready-clause-starved : goal.returns-in_err-ready-clause-starved
 returns-in_err-ready-clause-starved g c starved =
@@ -170,4 +170,4 @@ pub returns-clause-made : goal.returns-clause-made
 returns-clause-made g c = (returns-clause-opened g c).made
 
 pub returns-in-Some-clause-ends : goal.returns-in-Some-clause-ends
-returns-in-Some-clause-ends g c tells stands = ends_of (nothing _ _ _ _ _)
+returns-in-Some-clause-ends g c tells stands = ends_of (nothing _ _ _ _ _ _)
