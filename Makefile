@@ -8,11 +8,10 @@ JOBS ?= $(shell nproc)
 
 .PHONY: all demo test bench check install clean
 
-# What the most crates below the program stand on is proved first, crates side by side, and then the rest one crate after
-# another, each with all processors. `rt run` builds and then runs: without words the program ends with exit status 5, and
-# makes the files of a site, empty.
+# The crates below the program are proved side by side, lowest first, and then the program. `rt run` builds and then runs:
+# without words the program ends with exit status 5, and makes the files of a site, empty.
 all:
-	cd crates/site_model && $(RT) all check --jobs $(JOBS)
+	cd crates/onbar_command && $(RT) all check --jobs $(JOBS)
 	cd crates/onbar_main && { $(RT) run </dev/null >/dev/null || test $$? -eq 5; }
 	cd crates/onbar_main && rm -f cat spare boot log vol[01][0-9] chunk[01][0-9]
 	mkdir -p bin

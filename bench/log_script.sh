@@ -1,7 +1,8 @@
 #!/bin/sh
-# How fast `onbar -T` extends the log by a script of 20,000 lines, in commits of three lines each, beside a bare C loop
-# that makes the same writes and syncs on the same disk: the best of ROUNDS rounds each, with the processor time of that
-# round, the ratio of the two, and the program's peak memory. A busy disk makes either time many times as long.
+# How fast `onbar -T` fills the log by a script of 2,040 lines, in commits of three lines each, beside a bare C loop that
+# makes the same writes and syncs of the log on the same disk: the best of ROUNDS rounds each, with the processor time of that
+# round, the ratio of the two, and the program's peak memory. The program also syncs each of its other disks once and reads
+# them. A busy disk makes either time many times as long.
 #
 #   bench/log_script.sh [PROGRAM]     bin/onbar where no program is named
 #
@@ -49,26 +50,48 @@ static void want(int holds) {
     }
 }
 
-/* A batch behind so many records, and then the gate of its last one. */
-static void append(int log, int used, int records) {
-    static char batch[4096];
-    static const char gate = 1;
-    int len = 128 * records;
-    want(pwrite(log, batch, len, 73728 + 128LL * used) == len);
-    want(fdatasync(log) == 0);
-    want(pwrite(log, &gate, 1, 8192 + used + records - 1) == 1);
+static void put(int log, const char *bytes, int len, long long at) {
+    want(pwrite(log, bytes, len, at) == len);
     want(fdatasync(log) == 0);
 }
 
+/* A batch of three records behind so many in a file, and then the gate of its last one. */
+static void append(int log, int file, int used) {
+    static char batch[384];
+    static const char gate = 1;
+    long long gates = 8192 + 33024LL * (file % 8);
+    put(log, batch, 384, gates + 256 + 128LL * used);
+    put(log, &gate, 1, gates + used + 2);
+}
+
+/* The next file: its gates, which are there already at the first place, and then the other slot of the mark. */
+static void open_file(int log, int file) {
+    static char zeros[384], body[256];
+    static const char closed = 0, gate = 1;
+    int slot = (file + 1) % 2;
+    if (file % 8 > 0) {
+        put(log, zeros, 384, 8192 + 33024LL * (file % 8) - 128);
+    }
+    if (file > 2) {
+        put(log, &closed, 1, 4096 + slot);
+    }
+    put(log, body, 256, 4096 + 256 * (slot + 1));
+    put(log, &gate, 1, 4096 + slot);
+}
+
+/* 85 batches stand in each of eight files. */
 static void loop(const char *name) {
     int log = open(name, O_RDWR);
     want(log >= 0);
     want(fdatasync(log) == 0);
-    want(fdatasync(log) == 0);
-    for (int n = 0; n < 6666; n++) {
-        append(log, 3 * n, 3);
+    for (int file = 1; file <= 8; file++) {
+        if (file > 1) {
+            open_file(log, file);
+        }
+        for (int used = 0; used < 255; used += 3) {
+            append(log, file, used);
+        }
     }
-    append(log, 3 * 6666, 2);
     want(close(log) == 0);
 }
 
@@ -108,12 +131,10 @@ int main(int argc, char **argv) {
 TEXT
 cc -O2 -o bare bare.c
 
-# 6,666 transactions of three lines, and one of two.
 awk 'BEGIN {
-    for (n = 1; n <= 6666; n++) {
+    for (n = 1; n <= 680; n++) {
         printf "begin %d\nwrite %d A %d 0 %08x\ncommit %d\n", n, n, n % 64, n, n
     }
-    printf "begin 6667\nabort 6667\n"
 }' >script
 
 run_loop() {
@@ -127,7 +148,7 @@ run_program() {
     cp -R fresh site
     sync site/log
     (cd site && ../bare run "$onbar" <../script >../run.text)
-    if ! head -n 1 run.text | grep -q '^lines 20000 commits 6666 end 20000$'; then
+    if ! head -n 1 run.text | grep -q '^lines 2040 commits 680 end 2040$'; then
         cat run.text >&2
         exit 1
     fi
@@ -150,7 +171,7 @@ awk '
     FILENAME == "loop.times" { if (!loop || $1 < loop) { loop = $1; loop_used = $2 } }
     FILENAME == "run.times" { if (!run || $1 < run) { run = $1; run_used = $2 } if ($3 > memory) memory = $3 }
     function show(name, time, used) {
-        printf "%-14s%8.0f lines a second, %.2f s, %.2f s of it processor time\n", name, 20000 / (time / 1e9), time / 1e9, used / 1e9
+        printf "%-14s%8.0f lines a second, %.2f s, %.2f s of it processor time\n", name, 2040 / (time / 1e9), time / 1e9, used / 1e9
     }
     END {
         show("onbar -T:", run, run_used)

@@ -46,9 +46,12 @@ end_of() {
     sed -n 's/^lines .* end //p' "$1"
 }
 
-# Whether the log's record with this number is the last one of a batch that stands: its gate byte is 1.
+# Whether the log's record with this number is the last one of a batch that stands: its gate byte is 1. All batches have three
+# records: 85 of them stand in a file, and file N at place N modulo 8.
 is_committed() {
-    [ "$(od -An -tu1 -j $((8192 + $1 - 1)) -N 1 log | tr -d ' ')" = 1 ]
+    files=$((($1 - 1) / 255))
+    gate=$((8192 + 33024 * ((files + 1) % 8) + $1 - 1 - 255 * files))
+    [ "$(od -An -tu1 -j $gate -N 1 log | tr -d ' ')" = 1 ]
 }
 
 echo "# A site of two spaces, and one transaction."
@@ -58,10 +61,10 @@ run -T <script
 run -D A 0
 
 echo
-echo "# A script of 4,000 transactions, killed once some of them stand."
+echo "# A script of 600 transactions, killed once some of them stand."
 # The pipe stays open behind the script, so that the run can't end before it is killed.
 mkfifo pipe
-{ transactions 2 4000 42; exec sleep 600; } >pipe &
+{ transactions 2 600 42; exec sleep 600; } >pipe &
 writer=$!
 echo "\$ onbar -T <pipe &"
 "$onbar" -T <pipe &

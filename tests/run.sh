@@ -109,9 +109,12 @@ until_holds() {
     done
 }
 
-# Whether the log's record with this number is the last one of a batch that stands.
+# Whether the log's record with this number is the last one of a batch that stands, where all batches have three records: 85 of
+# them stand in a file, and file N at place N modulo 8.
 is_committed() {
-    [ "$(number log $((8192 + $1 - 1)) 1)" = 1 ]
+    batches=$((($1 - 1) / 3))
+    place=$(((batches / 85 + 1) % 8))
+    [ "$(number log $((8192 + 33024 * place + $1 - 1 - 255 * (batches / 85))) 1)" = 1 ]
 }
 
 # ---- words, statuses and texts
@@ -208,9 +211,9 @@ refuses_for_its_disks() {
     prints 'no such page 4'
     quiet
     cp log ../log
-    poke log 73728 377
+    poke log 41472 377
     gives 9 -D A
-    prints 'bad record in log at slot 0'
+    prints 'bad record in log at slot 256'
     gives 9 -T </dev/null
     : >log
     gives 17 -D A
@@ -220,24 +223,55 @@ refuses_for_its_disks() {
     [ ! -s log ] || fail "a lost log was written"
     cp ../log log
     page_41
+    for disk in spare boot vol07; do
+        cp $disk ../disk
+        poke $disk 0 0
+        gives 9 -D A
+        prints "bad record in $disk at slot 4294967295"
+        cp ../disk $disk
+    done
+    cp chunk00 ../chunk00
+    : >chunk00
+    gives 16 -D A 0
+    prints 'chunk of A lost'
+    gives 16 -T </dev/null
+    prints 'chunk of A lost'
+    gives 0 -D B 0
+    gives 8 -init A:4
+    [ ! -s chunk00 ] || fail "a lost chunk was written"
+    cp ../chunk00 chunk00
+    poke chunk00 4096 0
+    poke chunk00 4097 0
+    gives 9 -D A 0
+    prints 'bad record in chunk00 at slot 4294967295'
+    cp ../chunk00 chunk00
+    page_41
 }
 
 fills_the_log() {
     gives 0 -init A:4
-    # 2,048 transactions of 32 lines fill the 65,536 slots.
-    awk 'BEGIN {
-        for (n = 1; n <= 2049; n++) {
-            printf "begin %d\n", n
-            for (i = 0; i < 30; i++) printf "write %d A 0 0 41\n", n
-            printf "commit %d\n", n
-        }
-    }' | gives 19 -T
-    grep -q '^lines 65536 commits 2048 end 65536$' ../text || fail "it printed: $(cat ../text)"
-    tail -n 1 ../text | grep -q '^log full: ' || fail "it printed: $(cat ../text)"
+    # No file is backed up: 85 batches of three records stand in each of eight files.
+    transactions 1 681 41 | gives 19 -T
+    prints 'lines 2040 commits 680 end 2040' 'log full: file 1 not backed up'
     quiet
     gives 0 -D A 0
+    prints 'page A 0 stamp 2040' '0000 41000000000000000000000000000000' ok
     gives 0 -T </dev/null
-    prints 'lines 0 commits 0 end 65536' ok
+    prints 'lines 0 commits 0 end 2040' ok
+}
+
+# A space is shown again, and from a chunk of which nothing has to be written.
+brings_a_lane_to_the_end() {
+    gives 0 -init A:40
+    { echo 'begin 1'; seq 0 39 | sed 's/.*/write 1 A & 0 41/'; echo 'commit 1'; } | gives 0 -T
+    prints 'lines 42 commits 1 end 42' ok
+    gives 0 -D A
+    [ "$(grep -c '^page A [0-9]* stamp 42$' ../text)" -eq 40 ] || fail "it printed: $(head -c 300 ../text)"
+    cp ../text ../first
+    sum=$(cksum <chunk00)
+    gives 0 -D A
+    cmp -s ../first ../text || fail "another text at the second show"
+    [ "$(cksum <chunk00)" = "$sum" ] || fail "the second show wrote"
 }
 
 notes_the_time() {
@@ -245,7 +279,7 @@ notes_the_time() {
     before=$(date +%s)
     transactions 1 1 41 | gives 0 -T
     after=$(date +%s)
-    time=$(number log $((73728 + 2 * 128 + 16)) 8)
+    time=$(number log $((41472 + 2 * 128 + 16)) 8)
     [ "$time" -ge "$before" ] && [ "$time" -le "$after" ] || fail "the Commit's time is $time, and not $before to $after"
 }
 
@@ -253,7 +287,7 @@ notes_the_time() {
 
 lacks_memory() {
     site
-    transactions 2 1000 42 | gives 0 -T
+    transactions 2 500 42 | gives 0 -T
     # Too little for the system to start it, then too little to go on, then enough.
     lacked=0
     for size in $(seq 2000 10 12000) $(seq 16000 16000 512000); do
@@ -265,7 +299,7 @@ lacks_memory() {
     done
     [ "$status" -eq 0 ] || fail "not even the most memory was enough: status $status"
     [ "$lacked" -gt 0 ] || fail "want of memory was never met by status 1"
-    prints 'page A 0 stamp 3003' '0000 42000000000000000000000000000000' ok
+    prints 'page A 0 stamp 1503' '0000 42000000000000000000000000000000' ok
 }
 
 cannot_read() {
@@ -334,7 +368,7 @@ cannot_write_the_folder() {
     says 'cat: ' ''
 }
 
-# A script of 4,000 records; what stands of it, once there is room again, is whole.
+# A script of 1,800 records; what stands of it, once there is room again, is whole.
 meets_the_end_of_the_disk() {
     cut_short 'log: '
     gives 0 -T </dev/null
@@ -347,8 +381,8 @@ meets_the_end_of_the_disk() {
 
 fills_a_file() {
     site
-    transactions 2 1333 42 >../script
-    # Blocks of 512 bytes, or of 1,024: the log's end is met in either case.
+    transactions 2 600 42 >../script
+    # Blocks of 512 bytes, or of 1,024: the log's end is met in either case, in its third file or its seventh.
     (trap '' XFSZ; ulimit -f 250; exec "$onbar" -T) <../script >../text 2>../said
     ended $? 4 "onbar with a limit on files"
     meets_the_end_of_the_disk
@@ -356,10 +390,10 @@ fills_a_file() {
 
 fills_a_disk() {
     mkdir ../small
-    mount -t tmpfs -o size=300k small ../small 2>/dev/null || { echo "$name: not tried, since no disk can be mounted"; return; }
+    mount -t tmpfs -o size=640k small ../small 2>/dev/null || { echo "$name: not tried, since no disk can be mounted"; return; }
     cd ../small || fail "no folder"
     site
-    transactions 2 1333 42 >../script
+    transactions 2 600 42 >../script
     "$onbar" -T <../script >../text 2>../said
     ended $? 4 "onbar on a full disk"
     mount -o remount,size=10m ../small
@@ -370,10 +404,10 @@ fills_a_disk() {
 
 # ---- commands that are killed, and two at once
 
-# Runs a script of 4,000 transactions from a pipe that stays open behind it.
+# Runs a script of 600 transactions from a pipe that stays open behind it.
 start_long() {
     mkfifo ../pipe
-    { transactions 2 4000 42; exec sleep 60; } >../pipe &
+    { transactions 2 600 42; exec sleep 60; } >../pipe &
     writer=$!
     "$onbar" -T <../pipe >../first 2>../first_said &
     runner=$!
@@ -462,9 +496,23 @@ opens_in_order() {
 # Of a log: a gate is written only once its batch is synced.
 gates_in_order() {
     awk '
-        $1 == "write" && $2 == "log" && $3 >= 73728 { batch = 1 }
         $1 == "fdatasync" && $2 == "log" { batch = 0 }
-        $1 == "write" && $2 == "log" && $3 >= 8192 && $3 < 73728 && batch { print "a gate was opened over a batch that is not synced" }
+        $1 != "write" || $2 != "log" || $3 < 8192 { next }
+        ($3 - 8192) % 33024 >= 256 { batch = 1 }
+        ($3 - 8192) % 33024 < 256 && batch { print "a gate was opened over a batch that is not synced" }
+    ' ../listed >../wrong
+    [ ! -s ../wrong ] || fail "$(head -n 1 ../wrong)"
+}
+
+# Of a chunk: a page is written only once what is kept of it is synced, and the mark once the pages are.
+steps_in_order() {
+    awk '
+        $1 == "fdatasync" && $2 == "chunk00" { kept = 0; page = 0 }
+        $1 != "write" || $2 != "chunk00" || $3 < 4096 { next }
+        $3 >= 77824 && kept { print "a page was written over what is kept and not synced" }
+        $3 >= 77824 { page = 1 }
+        $3 >= 8192 && $3 < 77824 { kept = 1 }
+        $3 < 5120 && page { print "the mark was written over pages that are not synced" }
     ' ../listed >../wrong
     [ ! -s ../wrong ] || fail "$(head -n 1 ../wrong)"
 }
@@ -472,21 +520,25 @@ gates_in_order() {
 syncs_what_it_writes() {
     calls_of -init A:4 B:2
     opens_in_order
-    for file in cat log; do
+    for file in cat spare boot log vol00 vol16 chunk00 chunk01; do
         grep -q "^write $file" ../listed || fail "-init wrote no $file"
     done
+    grep -q '^write chunk02' ../listed && fail "-init wrote a chunk of no space"
     transactions 1 5 41 >../script
     calls_of -T <../script
     opens_in_order
     gates_in_order
     [ "$(grep -c '^fdatasync log' ../listed)" -ge 10 ] || fail "fewer than two syncs a commit"
     [ "$(grep -c '^write log' ../listed)" -eq 10 ] || fail "not two writes a commit"
-    grep -q '^write cat' ../listed && fail "-T wrote the catalogue"
+    grep '^write' ../listed | grep -v '^write log' && fail "-T wrote another disk than the log"
     calls_of -D A
     opens_in_order
-    grep -q '^write' ../listed && fail "-D wrote"
+    steps_in_order
+    grep '^write' ../listed | grep -v '^write chunk00' && fail "-D wrote another disk than its chunk"
+    calls_of -D A
+    grep -q '^write' ../listed && fail "a second -D wrote"
     # What a killed command left unsynced is synced before it is relied on.
-    for file in cat log; do
+    for file in cat spare boot vol00 vol16 log chunk00; do
         awk -v file="$file" '$1 == "fdatasync" && $2 == file { synced = 1 } $1 == "pread64" && $2 == file && !synced { exit 1 }' ../listed || fail "-D read $file before it was synced"
     done
 }
@@ -503,9 +555,10 @@ lets_fail() {
 
 meets_system_errors() {
     site
-    for n in 1 2; do
-        lets_fail fdatasync EIO $n -D A 0
-        cut_short "$(echo cat log | cut -d ' ' -f $n): Input/output error"
+    # Catalogue, spare disk, boot file, 17 volumes, log, chunk.
+    for n in 1:cat 2:spare 3:boot 4:vol00 20:vol16 21:log 22:chunk00; do
+        lets_fail fdatasync EIO "${n%:*}" -D A 0
+        cut_short "${n#*:}: Input/output error"
     done
     lets_fail fsync EIO 1 -D A 0
     says 'the folder: Input/output error' ''
@@ -538,7 +591,7 @@ meets_errors_of_a_length() {
 
 meets_reads_that_fail() {
     site
-    for file in cat log; do
+    for file in cat spare boot vol05 log chunk00; do
         # shellcheck disable=SC2046
         set -- $(first_on pread64 $file)
         lets_fail "$1" EIO "$2" -D A 0
@@ -567,8 +620,8 @@ run() {
     fi
 }
 
-of_files="formats_and_shows makes_each_file refuses_words refuses_script_lines refuses_for_its_disks fills_the_log notes_the_time
-    lacks_memory cannot_read cannot_print keeps_files_from_closed_streams cannot_open cannot_write_the_folder fills_a_file
+of_files="formats_and_shows makes_each_file refuses_words refuses_script_lines refuses_for_its_disks fills_the_log
+    brings_a_lane_to_the_end notes_the_time lacks_memory cannot_read cannot_print keeps_files_from_closed_streams cannot_open cannot_write_the_folder fills_a_file
     fills_a_disk is_killed is_one_of_two"
 of_calls="syncs_what_it_writes meets_system_errors meets_errors_of_a_length meets_reads_that_fail"
 if ! can_trace; then

@@ -4,6 +4,8 @@
 #[cfg(test)]
 mod forms;
 #[cfg(test)]
+mod logs;
+#[cfg(test)]
 mod scripts;
 #[cfg(test)]
 mod shows;

@@ -1,31 +1,7 @@
-// Scripts of transactions: their texts, and what stands behind them.
-use site_disk::OutOfMemory;
+//! Scripts of transactions: their texts, and what stands behind them.
 use std::alloc::{AllocError, Global};
 use std::test::Fail;
-use std::thread::Threads;
-use trial_site::{
-    Ended, INIT, MOMENT, NOTHING, Step, WRITTEN, begins, empty_log, extend, run_steps,
-};
-
-#[test]
-fn a_commit_is_found_again(rt: HostRuntime) -> Result<(), Fail> {
-    let alloc = rt.alloc();
-    let steps = [INIT, WRITTEN, NOTHING];
-    let ended = run_steps(&rt, alloc, &steps)?.ok_or("another end")?;
-    let log = ended.log.as_slice();
-    assert_eq!(rt; log.len(), 73_728 + 3 * 128);
-    let mut slots = [0; 3 * 128];
-    slots[..8].copy_from_slice(b"\x01\0\0\0\0\0\0\x01");
-    slots[128..142].copy_from_slice(b"\x02\x01\0\0\0\0\0\x01\0\0\0\0\0\0");
-    slots[160] = 0x41;
-    slots[256..264].copy_from_slice(b"\x03\0\0\0\0\0\0\x01");
-    slots[272..280].copy_from_slice(&MOMENT.to_be_bytes());
-    assert_eq!(rt; &log[73_728..], slots.as_slice());
-    let mut gates = [0; 65_536];
-    gates[2] = 1;
-    assert_eq!(rt; &log[8_192..73_728], gates.as_slice());
-    Ok(())
-}
+use trial_site::{INIT, Step, begins, extend, formatted, run_steps};
 
 #[test]
 fn two_transactions_are_open(rt: HostRuntime) -> Result<(), Fail> {
@@ -59,15 +35,6 @@ fn a_script_goes_on_with_what_stands(rt: HostRuntime) -> Result<(), Fail> {
     Ok(())
 }
 
-fn run_script<R: Threads + Sync>(
-    rt: &R,
-    alloc: Global,
-    script: &[u8],
-) -> Result<Ended, OutOfMemory> {
-    let log = empty_log(alloc)?;
-    extend(rt, alloc, &log, script)
-}
-
 // The second line of a script, and why it is refused.
 static REASONS: [(&str, &str); 10] = [
     ("write 2 B 4 4080 4", "words"),
@@ -86,9 +53,10 @@ static REASONS: [(&str, &str); 10] = [
 #[test]
 fn the_first_reason_is_told(rt: HostRuntime) -> Result<(), Fail> {
     let alloc = rt.alloc();
+    let site = formatted(&rt, alloc, INIT.words)?;
     for (line, why) in REASONS {
         let script = format!(in alloc; "begin 1\n{line}")?;
-        let ended = run_script(&rt, alloc, script.as_bytes())?;
+        let ended = extend(&rt, alloc, &site, script.as_bytes())?;
         let want = format!(in alloc; "lines 1 commits 0 end 1\nscript fault at line 2: {why}\n")?;
         assert!(rt; ended.tells(want.as_str()), "{line}");
     }
@@ -114,8 +82,9 @@ static ENDS: [(&str, &str, &str); 4] = [
 #[test]
 fn the_place_of_a_fault_is_told(rt: HostRuntime) -> Result<(), Fail> {
     let alloc = rt.alloc();
+    let site = formatted(&rt, alloc, INIT.words)?;
     for (script, text, status) in ENDS {
-        let ended = run_script(&rt, alloc, script.as_bytes())?;
+        let ended = extend(&rt, alloc, &site, script.as_bytes())?;
         assert!(rt; ended.is(text, status), "{script}");
     }
     Ok(())
@@ -154,9 +123,10 @@ static LONG_LINES: [(&str, usize, &str); 4] = [
 #[test]
 fn the_longest_line_is_taken(rt: HostRuntime) -> Result<(), Fail> {
     let alloc = rt.alloc();
+    let site = formatted(&rt, alloc, INIT.words)?;
     for (front, digits, text) in LONG_LINES {
         let script = long_line(alloc, front, digits)?;
-        let ended = run_script(&rt, alloc, &script)?;
+        let ended = extend(&rt, alloc, &site, &script)?;
         assert!(rt; ended.tells(text), "{digits}");
     }
     Ok(())
@@ -183,10 +153,11 @@ static BEHIND_64: [(&str, &str); 5] = [
 #[test]
 fn no_more_than_64_transactions_are_open(rt: HostRuntime) -> Result<(), Fail> {
     let alloc = rt.alloc();
+    let site = formatted(&rt, alloc, INIT.words)?;
     for (line, text) in BEHIND_64 {
         let mut script = begins(alloc, 64)?;
         script.extend_from_slice(line.as_bytes())?;
-        let ended = run_script(&rt, alloc, &script)?;
+        let ended = extend(&rt, alloc, &site, &script)?;
         assert!(rt; ended.tells(text), "{line}");
     }
     Ok(())

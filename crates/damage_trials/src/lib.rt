@@ -2,6 +2,10 @@
 #![tactic(auto)]
 
 #[cfg(test)]
+mod chunks;
+#[cfg(test)]
 mod logs;
 #[cfg(test)]
 mod noise;
+#[cfg(test)]
+mod places;

@@ -1,9 +1,5 @@
-mod CommandLemmas
-mod FormattingLemmas
-mod FrameLemmas
-mod InitLemmas
 mod ListLemmas
-mod ShowingLemmas
-mod SiteLemmas
-mod TransactionLemmas
+mod RefusalLemmas
+mod SoundLemmas
+mod TextLemmas
 mod WordsLemmas

@@ -1,7 +1,7 @@
 -- Fronts of a text.
 use Rattle.std.proofs.Common.{◌≡◌, ℕ, ◌+◌, ◌-◌, ◌≤◌, List, ◌++◌, length, take, drop, sym, ◌∙◌, ap, arith, append_assoc, length-drop}
 use Rattle.std.proofs.lemmas.List.{take_rest}
-use Rattle.log_reading.proofs.ListLemmas.{take-add}
+use Rattle.std.proofs.Math.Seq.{take-add}
 
 -- a front of the text, and a front of what is left
 pub front_more : (text begun old new : List ℕ) (at n : ℕ) → old ≡ begun ++ take at text

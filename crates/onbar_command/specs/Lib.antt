@@ -1,5 +1,3 @@
-pub mod Disks
-pub mod Formatting
-pub mod Forms
+pub mod Answers
+pub mod Commands
 pub mod Printing
-pub mod Showing

@@ -1,17 +1,13 @@
-//! The commands of `onbar`.
+//! The commands of `onbar` over a whole site.
+//!
+//! What the disks hold decides: a form is refused for it, and then nothing is written, or it does what its run says. Wherever a
+//! command is stopped, its disks stand for a fit site that the run passes, and the next command goes on from there.
 #![tactic(auto)]
 
 mod command;
-mod entering;
 mod form;
-mod formatted;
-mod formatting;
 mod printing;
 mod report;
-mod showing;
-mod site;
 mod text;
 
 pub use command::onbar;
-pub use formatting::SiteFault;
-pub use site::{Site, SiteDisks};

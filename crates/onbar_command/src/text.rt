@@ -105,9 +105,24 @@ pub fn status_line(alloc: Global, status: &Status) -> Result<String, AllocError>
             let name = name.as_str();
             format!(in alloc; "no such space {name}\n")
         }
+        Status::NoSuchCopy(copy) => format!(in alloc; "no such copy {copy}\n"),
         Status::NoSuchPage(page) => format!(in alloc; "no such page {page}\n"),
+        Status::NoSuchLog(file) => format!(in alloc; "no such log {file}\n"),
+        Status::NeedsRestart(restore) => format!(in alloc; "restore {restore} is active\n"),
+        Status::NothingToRestart => String::from_str(alloc, "nothing to restart\n"),
+        Status::ChunkLost(name) => {
+            let name = name.as_str();
+            format!(in alloc; "chunk of {name} lost\n")
+        }
         Status::LogLost => String::from_str(alloc, "log lost\n"),
+        Status::Refused(_) => String::from_str(alloc, "refused\n"),
         Status::LogFull(full) => full_line(alloc, *full),
-        _ => Ok(String::new(alloc)),
+        Status::StoreFull(volume) => format!(in alloc; "store full on volume {volume}\n"),
+        Status::CatalogueFull => String::from_str(alloc, "catalogue full\n"),
+        Status::BootFull => String::from_str(alloc, "boot file full\n"),
+        Status::TooManyObjects => String::from_str(alloc, "too many objects\n"),
+        Status::OutOfMemory | Status::ReadFault | Status::WriteFault | Status::DiskFault(_) => Ok(
+            String::new(alloc),
+        ),
     }
 }

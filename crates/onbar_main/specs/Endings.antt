@@ -2,8 +2,8 @@
 use Rattle.std.specs.Prelude.{ℕ, Option, None, Some}
 use Rattle.std.specs.declared.io.Error.{Error}
 use Rattle.host_disk.specs.declared.file.FileDisk.{FileDisk}
-use Rattle.onbar_command.specs.Disks.{disk_of}
-use Rattle.onbar_command.specs.declared.site.SiteDisks.{SiteDisks}
+use Rattle.site_core.specs.Disks.{disk_named}
+use Rattle.site_core.specs.declared.site.Site.{Site}
 use Rattle.onbar_main.specs.declared.ending.StartFault.{StartFault}
 use Rattle.site_model.specs.declared.disk_name.DiskName.{DiskName}
 use Rattle.onbar_main.specs.declared.ending.StartFault.TheVariants.{OutOfMemory as NoMemory, Disk, Held, Folder, Words}
@@ -17,8 +17,8 @@ start_number (Folder error) = 4
 start_number Words = 24
 
 -- the last error on a disk of a site
-abbrev pub error_on : SiteDisks FileDisk → DiskName → Option Error
-error_on disks name = of_disk (disk_of disks name)
+abbrev pub error_on : Site FileDisk → DiskName → Option Error
+error_on site name = of_disk (disk_named site name)
   where
     of_disk : Option FileDisk → Option Error
     of_disk None = None

@@ -1,10 +1,12 @@
 // How the process ends.
 ghost use Rattle.std.specs.Prelude.{◌≡◌, ◌↔◌, IsSome};
 ghost use Rattle.onbar_main.specs.Endings.{error_on, start_number};
-ghost use Rattle.site_model.specs.Commands.{CutsShort};
+ghost use Rattle.site_commands.specs.Commands.{CutsShort};
+ghost use Rattle.site_model.specs.declared.disk_name.DiskName.TheVariants.{Cat, Spare, Volume, Chunk};
 
 use host_disk::{FileDisk, HostFault};
-use onbar_command::SiteDisks;
+use site_core::Site;
+use site_disk::OutOfMemory;
 use site_model::{DiskName, Status};
 use std::alloc::{AllocError, AllocFailed};
 use std::{fmt, io};
@@ -58,6 +60,12 @@ impl<T: Drop> From<AllocFailed<T>> for StartFault {
     }
 }
 
+impl From<OutOfMemory> for StartFault {
+    fn from(_: OutOfMemory) -> StartFault {
+        StartFault::OutOfMemory
+    }
+}
+
 // The only call of the system that is asked for words.
 impl From<io::Error> for StartFault {
     fn from(error: io::Error) -> StartFault {
@@ -100,17 +108,43 @@ impl fmt::Display for Cut {
     }
 }
 
+// A disk is reached by giving up the value that works on it.
+fn volume_error(site: Site<FileDisk>, number: u16) -> Option<io::Error>
+    ensures { result ≡ error_on site (Volume number) }
+{
+    let store = site.store;
+    let volume = store.volumes.into_iter().nth(usize::from(number))?;
+    volume.into_disk().last_error()
+}
+
+// The catalogue's two disks.
+fn catalogue_errors(site: Site<FileDisk>) -> (Option<io::Error>, Option<io::Error>)
+    ensures cat { result.0 ≡ error_on site Cat }
+    ensures spare { result.1 ≡ error_on site Spare }
+{
+    let store = site.store;
+    let (cat, spare) = store.cat.into_disks();
+    (cat.last_error(), spare.last_error())
+}
+
+fn chunk_error(site: Site<FileDisk>, number: u16) -> Option<io::Error>
+    ensures { result ≡ error_on site (Chunk number) }
+{
+    let lane = site.lanes.into_iter().nth(usize::from(number))?;
+    lane.into_disk().last_error()
+}
+
 // The last error on a disk of a site.
-fn disk_error(disks: &SiteDisks<FileDisk>, name: DiskName) -> Option<io::Error>
-    ensures { result ≡ error_on disks.now name }
+fn disk_error(site: Site<FileDisk>, name: DiskName) -> Option<io::Error>
+    ensures { result ≡ error_on site name }
 {
     match name {
-        DiskName::Cat => disks.cat.last_error(),
-        DiskName::Spare => disks.spare.last_error(),
-        DiskName::Boot => disks.boot.last_error(),
-        DiskName::Log => disks.log.last_error(),
-        DiskName::Volume(n) => disks.volumes.get(usize::from(n))?.last_error(),
-        DiskName::Chunk(n) => disks.chunks.get(usize::from(n))?.last_error(),
+        DiskName::Cat => catalogue_errors(site).0,
+        DiskName::Spare => catalogue_errors(site).1,
+        DiskName::Boot => site.boot.into_disk().last_error(),
+        DiskName::Log => site.log.into_disk().last_error(),
+        DiskName::Volume(n) => volume_error(site, n),
+        DiskName::Chunk(n) => chunk_error(site, n),
     }
 }
 
@@ -118,7 +152,7 @@ fn disk_error(disks: &SiteDisks<FileDisk>, name: DiskName) -> Option<io::Error>
 /// nothing of it.
 pub fn cut_of(
     status: &Status,
-    disks: &SiteDisks<FileDisk>,
+    site: Site<FileDisk>,
     input: Option<io::Error>,
     output: Option<io::Error>,
 ) -> Option<Cut>
@@ -130,7 +164,7 @@ pub fn cut_of(
         Status::ReadFault => Some(Cut::Input(input.unwrap_or(unknown))),
         Status::WriteFault => Some(Cut::Output(output.unwrap_or(unknown))),
         Status::DiskFault(name) => {
-            let error = disk_error(disks, *name).unwrap_or(unknown);
+            let error = disk_error(site, *name).unwrap_or(unknown);
             Some(Cut::Disk(*name, error))
         }
         _ => None,

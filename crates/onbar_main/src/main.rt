@@ -13,8 +13,8 @@ mod opening;
 
 use ending::{StartFault, cut_of, start_status};
 use host_disk::{StdSink, StdSource};
-use onbar_command::{Site, onbar};
-use opening::{open_disks, open_folder};
+use onbar_command::onbar;
+use opening::{open_folder, open_site};
 use site_disk::Era;
 use site_model::exit_status;
 use std::alloc::Global;
@@ -65,7 +65,7 @@ where
     let words = words_of(rt)?;
     let mut era = Era::first();
     let folder = open_folder(rt)?;
-    let mut site = Site::new(open_disks(rt, alloc, &era, &folder)?);
+    let mut site = open_site(rt, alloc, &era, &folder)?;
     let mut script = StdSource::new(rt);
     let mut out = StdSink::new(rt);
     let status = onbar(
@@ -78,8 +78,7 @@ where
         &mut out,
         moment_of(rt),
     );
-    let disks = site.into_disks();
-    if let Some(cut) = cut_of(&status, &disks, script.last_error(), out.last_error()) {
+    if let Some(cut) = cut_of(&status, site, script.last_error(), out.last_error()) {
         let _ = eprintln!(rt; "onbar: {cut}");
     }
     Ok(exit_status(&status))

@@ -1,13 +1,14 @@
-// The disks of the site in the current folder.
+// The site in the current folder.
 ghost use Rattle.std.specs.Prelude.{◌≡◌, length, All, IfOk};
 ghost use Rattle.host_disk.specs.Files.{file_ledger};
-ghost use Rattle.onbar_command.specs.Disks.{MayUseAll};
 ghost use Rattle.site_disk.specs.Ledger.{MayUse, new_ledger};
+ghost use Rattle.site_core.specs.Disks.{MayUseAll};
+ghost use Rattle.site_core.specs.Made.{IsMadeSite};
 
 use crate::ending::StartFault;
 use host_disk::{FileDisk, Folder};
-use onbar_command::SiteDisks;
-use site_disk::Era;
+use site_core::{Site, SiteDisks};
+use site_disk::{Disk, Era};
 use site_model::DiskName;
 use std::alloc::Global;
 use std::fs::File;
@@ -90,38 +91,37 @@ fn open_files<R: Files<File = File>>(
     rt: &R,
     alloc: Global,
     era: &Era,
-) -> Result<SiteDisks<FileDisk>, StartFault>
-    ensures may { IfOk result (λ disks. MayUseAll file_ledger era.now disks) }
-    ensures volumes { IfOk result (λ disks. length disks.volumes.items ≡ 17) }
-    ensures chunks { IfOk result (λ disks. length disks.chunks.items ≡ 16) }
+) -> Result<Site<FileDisk>, StartFault>
+    ensures may { IfOk result (λ site. MayUseAll ⟦<FileDisk as Disk>⟧ era.now site) }
+    ensures made { IfOk result (λ site. IsMadeSite site) }
 {
-    Ok(SiteDisks {
+    let disks = SiteDisks {
         cat: open_held(rt, alloc, era)?,
         spare: open_disk(rt, alloc, era, DiskName::Spare)?,
         boot: open_disk(rt, alloc, era, DiskName::Boot)?,
         log: open_disk(rt, alloc, era, DiskName::Log)?,
         volumes: open_volumes(rt, alloc, era)?,
         chunks: open_chunks(rt, alloc, era)?,
-    })
+    };
+    Ok(Site::new(alloc, disks)?)
 }
 
-/// Opens the files `cat`, `spare`, `boot`, `log`, `vol00` to `vol16` and `chunk00` to `chunk15` of the current folder, and
-/// makes those that aren't there, empty. They may be used from this era on.
+/// The site over the files `cat`, `spare`, `boot`, `log`, `vol00` to `vol16` and `chunk00` to `chunk15` of the current folder,
+/// which are opened, and made where they aren't there, empty. They may be used from this era on.
 ///
 /// The folder is synced at each start: the command that made a file may have been killed before it came to that.
-pub fn open_disks<R: Files<File = File>>(
+pub fn open_site<R: Files<File = File>>(
     rt: &R,
     alloc: Global,
     era: &Era,
     folder: &Folder,
-) -> Result<SiteDisks<FileDisk>, StartFault>
-    ensures may { IfOk result (λ disks. MayUseAll file_ledger era.now disks) }
-    ensures volumes { IfOk result (λ disks. length disks.volumes.items ≡ 17) }
-    ensures chunks { IfOk result (λ disks. length disks.chunks.items ≡ 16) }
+) -> Result<Site<FileDisk>, StartFault>
+    ensures may { IfOk result (λ site. MayUseAll ⟦<FileDisk as Disk>⟧ era.now site) }
+    ensures made { IfOk result (λ site. IsMadeSite site) }
 {
-    let disks = open_files(rt, alloc, era)?;
+    let site = open_files(rt, alloc, era)?;
     match folder.sync() {
-        Ok(()) => Ok(disks),
+        Ok(()) => Ok(site),
         Err(error) => Err(StartFault::Folder(error)),
     }
 }

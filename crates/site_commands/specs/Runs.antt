@@ -9,7 +9,7 @@ use Rattle.log_files.specs.declared.room.LogFull.{LogFull as RoomFull}
 use Rattle.log_files.specs.declared.room.LogFull.TheVariants.{NotBackedUp, Needed, Positions}
 use Rattle.site_model.specs.declared.status.Status.{Status}
 use Rattle.site_model.specs.declared.status.Status.TheVariants.{Ok as Done, OutOfMemory, Usage, ScriptFault, NotFormatted, AlreadyFormatted, NoSuchSpace, NoSuchCopy, NoSuchPage, NoSuchLog, NeedsRestart, NothingToRestart, ChunkLost, LogLost, Refused, LogFull as FullLog, StoreFull, CatalogueFull, BootFull, TooManyObjects}
-use Rattle.site_model.specs.Runs.{head_at, shown_text, is_transactions}
+use Rattle.site_model.specs.Runs.{head_at, name_at, shown_text, is_transactions}
 use Rattle.site_model.specs.Texts.{space_text, extension_text, status_text}
 use Rattle.site_worlds.specs.Worlds.{Site, World, unformatted, formatted}
 use Rattle.site_worlds.specs.Moves.{Move, WorldMove, moves_on, site_rules, world_rules}
@@ -22,35 +22,36 @@ room_full (not_backed_up file) = NotBackedUp file
 room_full (needed_by file txn) = Needed file txn
 room_full (no_position end) = Positions end
 
--- the status of a refusal; no course of a command has a bad record, or is cut short
-abbrev pub status_in : Fault → Status
-status_in not_formatted = NotFormatted
-status_in already_formatted = AlreadyFormatted
-status_in (needs_restart number) = NeedsRestart number
-status_in nothing_to_restart = NothingToRestart
-status_in (no_such_space name) = NoSuchSpace name
-status_in (no_such_page number) = NoSuchPage number
-status_in (no_such_copy copy) = NoSuchCopy copy
-status_in log_lost = LogLost
-status_in (chunk_lost space) = ChunkLost space
-status_in (no_such_log file) = NoSuchLog file
-status_in (refused list) = Refused list
-status_in (log_full why) = FullLog (room_full why)
-status_in (store_full volume) = StoreFull volume
-status_in too_many_objects = TooManyObjects
-status_in catalogue_full = CatalogueFull
-status_in boot_full = BootFull
-status_in (script_fault line why) = ScriptFault line why
-status_in bad_record = OutOfMemory
-status_in cut_short = OutOfMemory
+-- the status of a refusal by a site with these spaces; no course of a command has a bad record, or is cut short
+abbrev pub status_in : List Space → Fault → Status
+status_in spaces not_formatted = NotFormatted
+status_in spaces already_formatted = AlreadyFormatted
+status_in spaces (needs_restart number) = NeedsRestart number
+status_in spaces nothing_to_restart = NothingToRestart
+status_in spaces (no_such_space name) = NoSuchSpace name
+status_in spaces (no_such_page number) = NoSuchPage number
+status_in spaces (no_such_copy copy) = NoSuchCopy copy
+status_in spaces log_lost = LogLost
+status_in spaces (chunk_lost space) = ChunkLost (name_at spaces space)
+status_in spaces (no_such_log file) = NoSuchLog file
+status_in spaces (refused list) = Refused list
+status_in spaces (log_full why) = FullLog (room_full why)
+status_in spaces (store_full volume) = StoreFull volume
+status_in spaces too_many_objects = TooManyObjects
+status_in spaces catalogue_full = CatalogueFull
+status_in spaces boot_full = BootFull
+status_in spaces (script_fault line why) = ScriptFault line why
+status_in spaces bad_record = OutOfMemory
+status_in spaces cut_short = OutOfMemory
 
-abbrev pub status_of : Option Fault → Status
-status_of None = Done
-status_of (Some fault) = status_in fault
+abbrev pub status_of : List Space → Option Fault → Status
+status_of spaces None = Done
+status_of spaces (Some fault) = status_in spaces fault
 
--- a command's course, the text that it prints, and the lines that it leaves of the script that it reads
+-- a command's course, its status, the text that it prints, and the lines that it leaves of the script that it reads
 pub record CommandResult : Type 0 where
   pub course : Course WorldMove Fault
+  pub status : Status
   pub text : List ℕ
   pub left : List Raw
 
@@ -58,16 +59,13 @@ pub record CommandResult : Type 0 where
 abbrev pub of_world : Course Move Fault → Course WorldMove Fault
 of_world course = record { moves = map moves_on course.moves; fault = course.fault }
 
--- the world behind a command, and its status
+-- the world behind a command
 abbrev pub world_behind : CommandResult → World → World
 world_behind run world = after_all world_rules run.course.moves world
 
-abbrev pub status_behind : CommandResult → Status
-status_behind run = status_of run.course.fault
-
--- a refusal before any work
+-- a refusal before any work, by no site or for no chunk
 abbrev pub refused_by : Fault → CommandResult
-refused_by fault = record { course = only (Some fault); text = status_text (status_in fault); left = [] }
+refused_by fault = record { course = only (Some fault); status = status_in [] fault; text = status_text (status_in [] fault); left = [] }
 
 -- the site behind a course
 abbrev pub site_behind : Course Move Fault → Site → Site
@@ -82,29 +80,31 @@ tells_counts (Some (script_fault line why)) = true
 tells_counts (Some (log_full why)) = true
 tells_counts (Some fault) = false
 
-abbrev pub run_text : History → History → Option Fault → List ℕ
-run_text before after fault = (if tells_counts fault then extension_text before after else []) ++ status_text (status_of fault)
+abbrev pub run_text : List Space → History → History → Option Fault → List ℕ
+run_text spaces before after fault = (if tells_counts fault then extension_text before after else []) ++ status_text (status_of spaces fault)
 
 abbrev pub transactions_on : ℕ → List ℕ → Site → CommandResult
 transactions_on moment script site =
     let course = transactions_of moment script site in record {
       course = of_world course;
-      text = run_text site.history (site_behind course site).history course.fault;
+      status = status_of site.head.spaces course.fault;
+      text = run_text site.head.spaces site.history (site_behind course site).history course.fault;
       left = (run_script moment script site).left;
     }
 
 -- `-D`
 
 -- the space with a name at the end of the log, or one page of it; where that is refused, the refusal alone
-abbrev pub show_text : History → List ℕ → Option ℕ → Option (ℕ × ℕ) → Option Fault → List ℕ
-show_text history name page place None = shown_text history name page place ++ status_text Done
-show_text history name page place (Some fault) = status_text (status_in fault)
+abbrev pub show_text : List Space → History → List ℕ → Option ℕ → Option (ℕ × ℕ) → Option Fault → List ℕ
+show_text spaces history name page place None = shown_text history name page place ++ status_text Done
+show_text spaces history name page place (Some fault) = status_text (status_in spaces fault)
 
 abbrev pub show_on : List ℕ → Option ℕ → Site → CommandResult
 show_on name page site =
     let course = show_course name page site in record {
       course = of_world course;
-      text = show_text (site_behind course site).history name page (place_of name site.head.spaces) course.fault;
+      status = status_of site.head.spaces course.fault;
+      text = show_text site.head.spaces (site_behind course site).history name page (place_of name site.head.spaces) course.fault;
       left = [];
     }
 
@@ -113,6 +113,7 @@ show_on name page site =
 abbrev pub init_on : ℕ → ℕ → List Space → World → CommandResult
 init_on moment blocks spaces unformatted = record {
   course = init_course (head_at moment blocks spaces) unformatted;
+  status = Done;
   text = flat_map space_text spaces ++ status_text Done;
   left = [];
 }
@@ -128,7 +129,7 @@ run_form moment script (show_form name page) (formatted site) = show_on name pag
 
 -- a command that is refused at a word
 abbrev pub refused_at : ℕ → CommandResult
-refused_at word = record { course = only None; text = status_text (Usage word); left = [] }
+refused_at word = record { course = only None; status = Usage word; text = status_text (Usage word); left = [] }
 
 -- what the words make of a world
 abbrev pub run_command : ℕ → List ℕ → Result Command ℕ → World → CommandResult
@@ -137,11 +138,6 @@ run_command moment script (Ok command) world = run_form moment script command.fo
 
 abbrev pub run : List (List ℕ) → ℕ → List ℕ → World → CommandResult
 run words moment script world = run_command moment script (command_of words) world
-
--- and the status with which the command ends
-abbrev pub ends_as : Result Command ℕ → CommandResult → Status
-ends_as (Err word) run = Usage word
-ends_as (Ok command) run = status_behind run
 
 -- whether a form reads its script
 abbrev pub reads_script : Result Command ℕ → Bool

@@ -53,7 +53,7 @@ lane_checks disk count old new (BadRecord name slot) fails = absurd fails
 lane_checks disk count old new (NeedsRestart number) fails = absurd fails
 lane_checks disk count old new (NoSuchSpace name) fails = absurd fails
 lane_checks disk count old new (NoSuchPage page) fails = absurd fails
-lane_checks disk count old new (ChunkLost space) fails = absurd fails
+lane_checks disk count old new (ChunkLost space name) fails = absurd fails
 lane_checks disk count old new LogLost fails = absurd fails
 lane_checks disk count old new (LogFull why) fails = absurd fails
 
@@ -68,7 +68,7 @@ log_checks before now (BadRecord name slot) fails = absurd fails
 log_checks before now (NeedsRestart number) fails = absurd fails
 log_checks before now (NoSuchSpace name) fails = absurd fails
 log_checks before now (NoSuchPage page) fails = absurd fails
-log_checks before now (ChunkLost space) fails = absurd fails
+log_checks before now (ChunkLost space name) fails = absurd fails
 log_checks before now LogLost fails = absurd fails
 log_checks before now (LogFull why) fails = absurd fails
 
@@ -91,7 +91,7 @@ checks_append AlreadyFormatted is = is
 checks_append (NeedsRestart number) is = is
 checks_append (NoSuchSpace name) is = is
 checks_append (NoSuchPage page) is = is
-checks_append (ChunkLost space) is = is
+checks_append (ChunkLost space name) is = is
 checks_append LogLost is = is
 checks_append (LogFull why) is = absurd is
 

@@ -178,13 +178,13 @@ goes_from disk from now old new spaces to changes fault goes opened at enough st
 
 -- a fault of these lanes cuts the call short, and the disk of one of them failed
 
-pub lane_cuts : {D : Type 0} (disk : Ghosts D) (count : ℕ) (old new : List (Lane D)) (fault : LanesFault) → FailsAt disk count old new fault → cuts (fault_in (of_lanes fault)) ≡ true
+pub lane_cuts : {D : Type 0} (disk : Ghosts D) (count : ℕ) (old new : List (Lane D)) (fault : LanesFault) → FailsAt disk count old new fault → cuts (fault_in (of_lanes [] fault)) ≡ true
 lane_cuts disk count old new (LostChunk n) fails = absurd fails
 lane_cuts disk count old new (BadMark n) fails = absurd fails
 lane_cuts disk count old new (FailedLane n) fails = refl
 
 pub lane_fails : {D : Type 0} (disk : Ghosts D) (count : ℕ) (old new : List (Lane D)) (fault : LanesFault) → FailsAt disk count old new fault
-    → FailsOnLane disk count old new (of_lanes fault)
+    → FailsOnLane disk count old new (of_lanes [] fault)
 lane_fails disk count old new (LostChunk n) fails = absurd fails
 lane_fails disk count old new (BadMark n) fails = absurd fails
 lane_fails disk count old new (FailedLane n) fails = (fails.0, fails.1)

@@ -35,5 +35,5 @@ IsAppendFault AlreadyFormatted = ⊥
 IsAppendFault (NeedsRestart number) = ⊥
 IsAppendFault (NoSuchSpace name) = ⊥
 IsAppendFault (NoSuchPage page) = ⊥
-IsAppendFault (ChunkLost space) = ⊥
+IsAppendFault (ChunkLost space name) = ⊥
 IsAppendFault LogLost = ⊥

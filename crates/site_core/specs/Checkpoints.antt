@@ -40,6 +40,6 @@ IsCheckpointFault AlreadyFormatted = ⊥
 IsCheckpointFault (NeedsRestart number) = ⊥
 IsCheckpointFault (NoSuchSpace name) = ⊥
 IsCheckpointFault (NoSuchPage page) = ⊥
-IsCheckpointFault (ChunkLost space) = ⊥
+IsCheckpointFault (ChunkLost space name) = ⊥
 IsCheckpointFault LogLost = ⊥
 IsCheckpointFault (LogFull why) = ⊥

@@ -1,12 +1,14 @@
 -- The faults of calls as those of courses.
-use Rattle.std.specs.Prelude.{ℕ, Option, None, Some, Result, Ok, Err}
+use Rattle.std.specs.Prelude.{◌≡◌, ℕ, List, Option, None, Some, Result, Ok, Err}
 use Rattle.site_disk.specs.Causes.{Rose}
 use Rattle.log_files.specs.declared.faults.LogFault.{LogFault}
 use Rattle.log_files.specs.declared.faults.LogFault.TheVariants.{LogLost as LostLog, BadRecord as BadSlot, Failed, OutOfMemory as NoMemory}
 use Rattle.log_files.specs.declared.room.LogFull.{LogFull as RoomFull}
 use Rattle.log_files.specs.declared.room.LogFull.TheVariants.{NotBackedUp, Needed, Positions}
+use Rattle.onbar_grammar.specs.Script.{Space}
 use Rattle.site_lanes.specs.declared.refusals.LanesFault.{LanesFault}
 use Rattle.site_lanes.specs.declared.refusals.LanesFault.TheVariants.{ChunkLost as LostChunk, BadMark, Failed as FailedLane}
+use Rattle.site_model.specs.Runs.{name_at}
 use Rattle.site_model.specs.declared.disk_name.DiskName.TheVariants.{Log, Chunk}
 use Rattle.site_model.specs.declared.status.Status.{Status}
 use Rattle.site_model.specs.declared.status.Status.TheVariants.{OutOfMemory as EndsOutOfMemory, DiskFault as EndsDiskFault, NotFormatted as EndsNotFormatted, AlreadyFormatted as EndsAlreadyFormatted, BadRecord as EndsBadRecord, NeedsRestart as EndsNeedsRestart, NoSuchSpace as EndsNoSuchSpace, NoSuchPage as EndsNoSuchPage, ChunkLost as EndsChunkLost, LogLost as EndsLogLost, LogFull as EndsLogFull}
@@ -30,7 +32,7 @@ fault_in (BadRecord disk slot) = bad_record
 fault_in (NeedsRestart number) = needs_restart number
 fault_in (NoSuchSpace name) = no_such_space name
 fault_in (NoSuchPage page) = no_such_page page
-fault_in (ChunkLost space) = chunk_lost space
+fault_in (ChunkLost space name) = chunk_lost space
 fault_in LogLost = log_lost
 fault_in (FullLog why) = log_full (full_of why)
 
@@ -51,11 +53,11 @@ FailsOnLog before now OutOfMemory = Unit {0}
 FailsOnLog before now (DiskFault Log) = Rose before now
 FailsOnLog before now fault = ⊥
 
--- a fault of the lanes
-abbrev pub of_lanes : LanesFault → SiteFault
-of_lanes (LostChunk space) = ChunkLost space
-of_lanes (BadMark space) = BadRecord (Chunk space) 4294967295
-of_lanes (FailedLane space) = DiskFault (Chunk space)
+-- a fault of the lanes of a site with these spaces
+abbrev pub of_lanes : List Space → LanesFault → SiteFault
+of_lanes spaces (LostChunk space) = ChunkLost space (name_at spaces space)
+of_lanes spaces (BadMark space) = BadRecord (Chunk space) 4294967295
+of_lanes spaces (FailedLane space) = DiskFault (Chunk space)
 
 -- the status with which a command ends at it
 abbrev pub status_in : SiteFault → Status
@@ -67,9 +69,14 @@ status_in (BadRecord disk slot) = EndsBadRecord disk slot
 status_in (NeedsRestart number) = EndsNeedsRestart number
 status_in (NoSuchSpace name) = EndsNoSuchSpace name
 status_in (NoSuchPage page) = EndsNoSuchPage page
-status_in (ChunkLost space) = EndsChunkLost space
+status_in (ChunkLost space name) = EndsChunkLost name
 status_in LogLost = EndsLogLost
 status_in (FullLog why) = EndsLogFull why
+
+-- a lost chunk is named as the space is at its place
+abbrev pub IsNamed : List Space → SiteFault → Type 0
+IsNamed spaces (ChunkLost space name) = name ≡ name_at spaces space
+IsNamed spaces fault = Unit {0}
 
 -- memory was wanting, or a disk failed
 abbrev pub IsFailure : SiteFault → Type 0
@@ -81,7 +88,7 @@ IsFailure (BadRecord disk slot) = ⊥
 IsFailure (NeedsRestart number) = ⊥
 IsFailure (NoSuchSpace name) = ⊥
 IsFailure (NoSuchPage page) = ⊥
-IsFailure (ChunkLost space) = ⊥
+IsFailure (ChunkLost space name) = ⊥
 IsFailure LogLost = ⊥
 IsFailure (FullLog why) = ⊥
 
@@ -95,6 +102,6 @@ IsNoDiskFault (BadRecord disk slot) = Unit {0}
 IsNoDiskFault (NeedsRestart number) = Unit {0}
 IsNoDiskFault (NoSuchSpace name) = Unit {0}
 IsNoDiskFault (NoSuchPage page) = Unit {0}
-IsNoDiskFault (ChunkLost space) = Unit {0}
+IsNoDiskFault (ChunkLost space name) = Unit {0}
 IsNoDiskFault LogLost = Unit {0}
 IsNoDiskFault (FullLog why) = Unit {0}

@@ -58,6 +58,6 @@ module _ {D : Type 0} (disk : Ghosts D) (count : ℕ) (old new : List (Lane D)) 
   FailsOnLane (NeedsRestart number) = ⊥
   FailsOnLane (NoSuchSpace name) = ⊥
   FailsOnLane (NoSuchPage page) = ⊥
-  FailsOnLane (ChunkLost space) = ⊥
+  FailsOnLane (ChunkLost space name) = ⊥
   FailsOnLane LogLost = ⊥
   FailsOnLane (LogFull why) = ⊥

@@ -1,7 +1,13 @@
 //! Why a call of a site failed.
+ghost use Rattle.std.specs.Prelude.{◌≡◌};
+ghost use Rattle.site_headers.specs.Views.{spaces_of};
+ghost use Rattle.site_model.specs.Runs.{name_at};
+ghost use Rattle.site_core.specs.Faults.{of_lanes};
+
 use bsa_descriptor::Text;
 use held_log::HeldFault;
 use log_files::{LogFault, LogFull};
+use site_headers::SpaceHead;
 use site_lanes::LanesFault;
 use site_model::{DiskName, Status};
 
@@ -21,8 +27,8 @@ pub enum SiteFault {
     NoSuchSpace(Text<19>),
     /// The space has no such page.
     NoSuchPage(u32),
-    /// The chunk of this space has no valid header.
-    ChunkLost(u16),
+    /// The chunk of the space at this place, which has this name, has no valid header.
+    ChunkLost { space: u16, name: Text<19> },
     LogLost,
     LogFull(LogFull),
 }
@@ -46,21 +52,48 @@ impl From<LogFault> for SiteFault {
     }
 }
 
-impl From<LanesFault> for SiteFault {
-    ghost use Rattle.std.specs.Prelude.{◌≡◌};
-    ghost use Rattle.site_core.specs.Faults.{of_lanes};
+/// The name of the space at a place; none where there is none.
+fn name_of(spaces: &[SpaceHead], place: u16) -> Text<19>
+    ensures { result ≡ name_at (spaces_of spaces.now) place }
+{
+    let bytes = match spaces.get(usize::from(place)) {
+        Some(space) => space.name.as_bytes(),
+        None => &[],
+    };
+    match Text::from_bytes(bytes) {
+        Some(name) => name,
+        None => unreachable!(),
+    }
+}
 
-    ghost from_gives = { λ fault e. e ≡ of_lanes fault };
-
-    fn from(fault: LanesFault) -> Self {
+impl SiteFault {
+    /// A fault of the lanes of a site with these spaces.
+    pub fn of_lanes(fault: LanesFault, spaces: &[SpaceHead]) -> SiteFault
+        ensures { result ≡ of_lanes (spaces_of spaces.now) fault }
+    {
         match fault {
-            LanesFault::ChunkLost { space } => SiteFault::ChunkLost(space),
+            LanesFault::ChunkLost { space } => SiteFault::ChunkLost {
+                space,
+                name: name_of(spaces, space),
+            },
             LanesFault::BadMark { space } => SiteFault::BadRecord {
                 disk: DiskName::Chunk(space),
                 slot: u32::MAX,
             },
             LanesFault::Failed { space } => SiteFault::DiskFault(DiskName::Chunk(space)),
         }
+    }
+}
+
+// Where no chunk can be lost.
+impl From<LanesFault> for SiteFault {
+    ghost use Rattle.std.specs.Prelude.{◌≡◌, []};
+    ghost use Rattle.site_core.specs.Faults.{of_lanes};
+
+    ghost from_gives = { λ fault e. e ≡ of_lanes [] fault };
+
+    fn from(fault: LanesFault) -> Self {
+        SiteFault::of_lanes(fault, &[])
     }
 }
 
@@ -95,7 +128,7 @@ impl From<SiteFault> for Status {
             SiteFault::NeedsRestart(number) => Status::NeedsRestart(number),
             SiteFault::NoSuchSpace(name) => Status::NoSuchSpace(name),
             SiteFault::NoSuchPage(page) => Status::NoSuchPage(page),
-            SiteFault::ChunkLost(space) => Status::ChunkLost(space),
+            SiteFault::ChunkLost { space: _, name } => Status::ChunkLost(name),
             SiteFault::LogLost => Status::LogLost,
             SiteFault::LogFull(why) => Status::LogFull(why),
         }

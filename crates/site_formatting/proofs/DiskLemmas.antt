@@ -152,7 +152,7 @@ module _ {D : Type 0} where
     cause_since era head old mid new each (NeedsRestart number) has = has
     cause_since era head old mid new each (NoSuchSpace name) has = has
     cause_since era head old mid new each (NoSuchPage page) has = has
-    cause_since era head old mid new each (ChunkLost space) has = has
+    cause_since era head old mid new each (ChunkLost space name) has = has
     cause_since era head old mid new each LogLost has = has
     cause_since era head old mid new each (LogFull why) has = has
 

@@ -10,7 +10,7 @@ use Rattle.site_worlds.specs.Fitness.{IsFit}
 use Rattle.site_layouts.specs.Layouts.{HeldWorld}
 use Rattle.site_core.specs.declared.site.Site.{Site}
 use Rattle.site_core.specs.Disks.{contents_of, images_of}
-use Rattle.site_commands.specs.Runs.{CommandResult, run_form, status_behind}
+use Rattle.site_commands.specs.Runs.{CommandResult, run_form}
 use Rattle.site_commands.specs.Commands.{CutsShort, HasDone, IsPassed, Passes, Start, StandOn, uses}
 use Rattle.site_forms.specs.declared.report.Report.{Report}
 use Rattle.site_forms.specs.Starts.{start_of}
@@ -19,7 +19,7 @@ use Rattle.site_forms.specs.Reports.{status_told, text_told}
 -- the work is done, and only its text is to be printed
 pub record IsDone (reads : Bool) (start : Start) (used : DiskName → Bool) (at : HeldWorld) (run : CommandResult) (after : List ℕ) (contents : DiskName → List ℕ) (era : ℕ)
     (new : Images DiskName) (result : Result Report Status) : Type 0 where
-  pub status : status_behind run ≡ status_told result
+  pub status : run.status ≡ status_told result
   pub text : run.text ≡ text_told result
   pub work : HasDone reads start used at run (status_told result) after contents era new
 

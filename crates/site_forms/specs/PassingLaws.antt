@@ -2,7 +2,9 @@
 use Rattle.std.specs.Prelude.{◌≡◌, ◌⊎◌, ℕ, ◌+◌, ◌<◌, ◌≤◌, List, [], ◌∷◌, map, Bool, true, Option, None, Some}
 use mathlib.Core.Logic.{inl, inr}
 use Rattle.std.proofs.Common.{arith, refl, sym, ap, subst, ◌∙◌, ⊎_elim}
+use Rattle.std.specs.Option.{option_or}
 use Rattle.site_disk.specs.Ledger.{EraView}
+use Rattle.onbar_grammar.specs.Script.{Space}
 use Rattle.site_disk.specs.declared.disk.Disk.{Ghosts}
 use Rattle.log_files.specs.declared.room.LogFull.{LogFull as RoomFull}
 use Rattle.log_files.specs.declared.room.LogFull.TheVariants.{NotBackedUp, Needed, Positions}
@@ -13,10 +15,10 @@ use Rattle.walks.specs.CoursesLaws.{way_begins}
 use Rattle.site_model.specs.declared.disk_name.DiskName.{DiskName}
 use Rattle.site_model.specs.declared.disk_name.DiskName.TheVariants.{Cat, Spare, Boot, Log, Volume, Chunk}
 use Rattle.site_model.specs.declared.status.Status.{Status}
-use Rattle.site_model.specs.declared.status.Status.TheVariants.{LogFull}
+use Rattle.site_model.specs.declared.status.Status.TheVariants.{ChunkLost as LostChunk, LogFull}
 use Rattle.site_worlds.specs.Worlds.{Site as OfWorld, World, unformatted, formatted}
 use Rattle.site_worlds.specs.Moves.{Move, WorldMove, moves_on, site_after, site_rules, world_rules}
-use Rattle.site_courses.specs.Faults.{Fault, bad_record}
+use Rattle.site_courses.specs.Faults.{Fault, bad_record, chunk_lost}
 use Rattle.site_layouts.specs.Disks.{depth}
 use Rattle.site_layouts.specs.Stores.{Held}
 use Rattle.site_layouts.specs.Layouts.{HeldWorld, Shows}
@@ -25,7 +27,7 @@ use Rattle.site_core.specs.declared.site.Site.{Site}
 use Rattle.site_core.specs.declared.faults.SiteFault.{SiteFault}
 use Rattle.site_core.specs.declared.faults.SiteFault.TheVariants.{OutOfMemory, DiskFault, NotFormatted, AlreadyFormatted, BadRecord, NeedsRestart, NoSuchSpace, NoSuchPage, ChunkLost, LogLost, LogFull as FullLog}
 use Rattle.site_core.specs.Disks.{MayUseAll, bytes_or, contents_of, disk_named, image_or, images_of, may_or}
-use Rattle.site_core.specs.Faults.{IsFailure, fault_in, full_of, status_in as status_of_site}
+use Rattle.site_core.specs.Faults.{IsFailure, IsNamed, fault_in, full_of, status_in as status_of_site}
 use Rattle.site_commands.specs.Runs.{CommandResult, of_world, room_full, status_in as status_of_course, world_behind}
 use Rattle.site_commands.specs.Commands.{AddsNone, HasDone, HasRead, IsPassed, Passes, Start, StandOn, once_synced}
 
@@ -280,16 +282,39 @@ full_again (NotBackedUp file) = refl
 full_again (Needed file txn) = refl
 full_again (Positions end) = refl
 
--- A fault that a course may have, and that isn't a failure, is told by the status of the course's.
-pub told_as : (fault : SiteFault) → (IsFailure fault → ⊥) → (fault_in fault ≡ bad_record → ⊥) → status_of_course (fault_in fault) ≡ status_of_site fault
-told_as OutOfMemory whole good = absurd (whole tt)
-told_as (DiskFault name) whole good = absurd (whole tt)
-told_as NotFormatted whole good = refl
-told_as AlreadyFormatted whole good = refl
-told_as (BadRecord name slot) whole good = absurd (good refl)
-told_as (NeedsRestart number) whole good = refl
-told_as (NoSuchSpace name) whole good = refl
-told_as (NoSuchPage page) whole good = refl
-told_as (ChunkLost space) whole good = refl
-told_as LogLost whole good = refl
-told_as (FullLog why) whole good = ap LogFull (full_again why)
+-- a refusal that is of no chunk
+abbrev pub IsOfNoChunk : Option Fault → Type 0
+IsOfNoChunk (Some (chunk_lost space)) = ⊥
+IsOfNoChunk fault = Unit {0}
+
+pub no_chunk_or : (first second : Option Fault) → IsOfNoChunk first → IsOfNoChunk second → IsOfNoChunk (option_or first second)
+no_chunk_or None second a b = b
+no_chunk_or (Some fault) second a b = a
+
+-- names no chunk wrongly
+pub no_chunk_named : (spaces : List Space) (fault : SiteFault) → IsOfNoChunk (Some (fault_in fault)) → IsNamed spaces fault
+no_chunk_named spaces (ChunkLost space name) is = absurd is
+no_chunk_named spaces OutOfMemory is = tt
+no_chunk_named spaces (DiskFault disk) is = tt
+no_chunk_named spaces NotFormatted is = tt
+no_chunk_named spaces AlreadyFormatted is = tt
+no_chunk_named spaces (BadRecord disk slot) is = tt
+no_chunk_named spaces (NeedsRestart number) is = tt
+no_chunk_named spaces (NoSuchSpace name) is = tt
+no_chunk_named spaces (NoSuchPage page) is = tt
+no_chunk_named spaces LogLost is = tt
+no_chunk_named spaces (FullLog why) is = tt
+
+-- A fault that a course may have, that isn't a failure and names a lost chunk, is told by the status of the course's.
+pub told_as : (spaces : List Space) (fault : SiteFault) → IsNamed spaces fault → (IsFailure fault → ⊥) → (fault_in fault ≡ bad_record → ⊥) → status_of_course spaces (fault_in fault) ≡ status_of_site fault
+told_as spaces OutOfMemory named whole good = absurd (whole tt)
+told_as spaces (DiskFault name) named whole good = absurd (whole tt)
+told_as spaces NotFormatted named whole good = refl
+told_as spaces AlreadyFormatted named whole good = refl
+told_as spaces (BadRecord name slot) named whole good = absurd (good refl)
+told_as spaces (NeedsRestart number) named whole good = refl
+told_as spaces (NoSuchSpace name) named whole good = refl
+told_as spaces (NoSuchPage page) named whole good = refl
+told_as spaces (ChunkLost space name) named whole good = ap LostChunk (sym named)
+told_as spaces LogLost named whole good = refl
+told_as spaces (FullLog why) named whole good = ap LogFull (full_again why)

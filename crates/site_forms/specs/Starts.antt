@@ -22,7 +22,7 @@ writes_on (show_form name page) other = false
 
 -- A refusal for a chunk: another chunk may have been put back in order before it.
 abbrev pub IsOfChunk : Status → Type 0
-IsOfChunk (ChunkLost space) = Unit {0}
+IsOfChunk (ChunkLost name) = Unit {0}
 IsOfChunk (BadRecord (Chunk space) slot) = Unit {0}
 IsOfChunk status = ⊥
 

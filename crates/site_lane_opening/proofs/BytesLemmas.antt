@@ -12,6 +12,7 @@ use Rattle.site_lanes.specs.declared.refusals.LanesFault.TheVariants.{ChunkLost,
 use Rattle.site_model.specs.declared.disk_name.DiskName.TheVariants.{Chunk}
 use Rattle.site_model.specs.declared.status.Status.{Status}
 use Rattle.site_model.specs.declared.status.Status.TheVariants.{ChunkLost as EndsLost, BadRecord as EndsBad}
+use Rattle.site_model.specs.Runs.{name_at}
 use Rattle.site_lane_laws.specs.OpeningLaws.{there_is}
 use Rattle.site_openings.specs.Openings.{AllowedBy, Contents_of, IsFirstBadChunk, IsFirstLost, IsWanted, LanesAllow, LanesRefuse, Named, RefusedBy, all_lanes, no_slot}
 use Rattle.site_core.specs.Disks.{contents_of}
@@ -47,7 +48,7 @@ module _ (wanted : Option ℕ) (head : Head) (contents : Contents_of) where
   pub refused_once : (a b : Status) → LanesRefuse wanted head contents a → LanesRefuse wanted head contents b → a ≡ b
   refused_once a b first other = elim first [
     | inl (n, lost, is) ↦ elim other [
-      | inl (m, again, same) ↦ is ∙ ap (λ (k : ℕ). EndsLost k) (lost_once n m lost again) ∙ sym same
+      | inl (m, again, same) ↦ is ∙ ap (λ (k : ℕ). EndsLost (name_at head.spaces k)) (lost_once n m lost again) ∙ sym same
       | inr (m, bad, same) ↦ absurd (lost_or_bad n m lost bad)
     ]
     | inr (n, bad, is) ↦ elim other [
@@ -79,7 +80,7 @@ module _ {D : Type 0} (disk : Ghosts D) (tells : IsTrue disk.is_modelled) (era :
       }
 
   -- and those of lanes that are refused
-  pub refuse_by : (own : LanesFault) → RefusesBy disk wanted head own old.lanes.items → LanesRefuse wanted head (contents_of disk old) (status_in (of_lanes own))
+  pub refuse_by : (own : LanesFault) → RefusesBy disk wanted head own old.lanes.items → LanesRefuse wanted head (contents_of disk old) (status_in (of_lanes head.spaces own))
   refuse_by (ChunkLost n) refuses =
       let is = refuses tells in inl (n, record { is_wanted = is.is_wanted; is_lost = is.is_lost; before = is.before }, refl)
   refuse_by (BadMark n) refuses =
@@ -97,15 +98,15 @@ module _ {D : Type 0} (disk : Ghosts D) (tells : IsTrue disk.is_modelled) (era :
   refuse_by (Failed n) refuses = absurd refuses
 
   stops_refuse : (refused : Coming disk) (to : ℕ) (own : LanesFault) → Stops disk wanted head era refused to own old.lanes.items new.lanes.items
-      → IsFailure (of_lanes own) ⊎ LanesRefuse wanted head (contents_of disk old) (status_in (of_lanes own))
+      → IsFailure (of_lanes head.spaces own) ⊎ LanesRefuse wanted head (contents_of disk old) (status_in (of_lanes head.spaces own))
   stops_refuse refused to own stops = elim stops [
     | inl syncing ↦ inl (failure own syncing.1.space syncing.1.fault_is)
     | inr (lt, inl failed) ↦ inl (failure own failed.1.space failed.1.fault_is)
     | inr (lt, inr refuses) ↦ inr (refuse_by own refuses.1)
   ]
     where
-      failure : (fault : LanesFault) (n : ℕ) → fault ≡ Failed n → IsFailure (of_lanes fault)
-      failure fault n is = subst (λ (f : LanesFault). IsFailure (of_lanes f)) (sym is) tt
+      failure : (fault : LanesFault) (n : ℕ) → fault ≡ Failed n → IsFailure (of_lanes head.spaces fault)
+      failure fault n is = subst (λ (f : LanesFault). IsFailure (of_lanes head.spaces f)) (sym is) tt
 
   pub site_refuses : (refused : Coming disk) (to : ℕ) (fault : SiteFault) → StopsSite disk wanted head era refused to fault old new
       → IsFailure fault ⊎ LanesRefuse wanted head (contents_of disk old) (status_in fault)

@@ -10,7 +10,7 @@ use Rattle.site_headers.specs.Heads.{Head, IsHead}
 use Rattle.site_headers.specs.Views.{head_of, space_of as space_in}
 use Rattle.site_headers.specs.declared.heads.SiteHead.{SiteHead}
 use Rattle.logical_log.specs.Rings.{IsOpen as IsOpenLog}
-use Rattle.space_lane.specs.Lanes.{disk_of, space_of, IsOpen}
+use Rattle.space_lane.specs.Lanes.{count_of, disk_of, space_of, IsOpen}
 use Rattle.space_lane.specs.declared.lane.Lane.{Lane}
 use Rattle.site_lanes.specs.Lanes.{OfEach}
 use Rattle.site_lanes.specs.declared.refusals.LanesFault.{LanesFault}
@@ -18,14 +18,16 @@ use Rattle.site_lanes.specs.declared.refusals.LanesFault.TheVariants.{ChunkLost,
 use Rattle.site_model.specs.declared.disk_name.DiskName.{DiskName}
 use Rattle.site_model.specs.declared.disk_name.DiskName.TheVariants.{Chunk}
 use Rattle.site_lane_laws.specs.OpeningLaws.{there_is}
+use Rattle.site_worlds.specs.Lanes.{pages_of_space}
 use Rattle.site_openings.specs.Openings.{IsWanted}
 use Rattle.site_core.specs.Disks.{faults_on, faults_or}
-use Rattle.site_core.specs.Faults.{of_lanes}
+use Rattle.site_core.specs.Faults.{IsNamed, of_lanes}
 use Rattle.site_core.specs.Made.{IsMadeSite}
 use Rattle.site_core.specs.Opened.{IsOpenSite}
 use Rattle.site_core.specs.declared.faults.SiteFault.{SiteFault}
-use Rattle.site_core.specs.declared.faults.SiteFault.TheVariants.{DiskFault}
+use Rattle.site_core.specs.declared.faults.SiteFault.TheVariants.{OutOfMemory, DiskFault, NotFormatted, AlreadyFormatted, BadRecord, NeedsRestart, NoSuchSpace, NoSuchPage, ChunkLost as LostChunk, LogLost, LogFull}
 use Rattle.site_core.specs.declared.site.Site.{Site}
+use Rattle.site_lane_opening.specs.Left.{IsLanesFault}
 use Rattle.site_lane_opening.specs.Steps.{Coming, FailsOne, Opens, Stops, StopsSite}
 use Rattle.site_lane_opening.proofs.DiskLemmas.{Kept, opens_keep, stops_keep}
 
@@ -62,7 +64,7 @@ module _ {D : Type 0} (disk : Ghosts D) (wanted : Option ℕ) (head : Head) (era
       failed_once a b is = cc
 
   rose_own : length new.lanes.items ≡ length old.lanes.items → ((n : ℕ) → IsWanted wanted head n → n < length old.lanes.items) → (own : LanesFault)
-      → Stops disk wanted head era refused to.number own old.lanes.items new.lanes.items → (name : DiskName) → of_lanes own ≡ DiskFault name → Rose (faults_on disk old name) (faults_on disk new name)
+      → Stops disk wanted head era refused to.number own old.lanes.items new.lanes.items → (name : DiskName) → of_lanes head.spaces own ≡ DiskFault name → Rose (faults_on disk old name) (faults_on disk new name)
   rose_own as_many within (ChunkLost n) stops name is = absurd cc
   rose_own as_many within (BadMark n) stops name is = absurd cc
   rose_own as_many within (Failed n) stops name is =
@@ -97,6 +99,12 @@ module _ {D : Type 0} (disk : Ghosts D) (wanted : Option ℕ) (head : Head) (era
     pub opened_one : (space : ℕ) → IsWanted wanted head space → OfEach (λ place lane. place ≡ space → IsOpen lane) new.lanes.items
     opened_one space w n lane there same = (opened_at n (subst (IsWanted wanted head) (sym same) w) lane there).0
 
+    pub counted_one : (space : ℕ) → IsWanted wanted head space → OfEach (λ place lane. place ≡ space → count_of lane ≡ pages_of_space head.spaces space) new.lanes.items
+    counted_one space w n lane there same =
+        let own = subst (IsWanted wanted head) (sym same) w in
+        let was = there_is old.lanes.items n (within n own) in
+        (opens.each n was.0 lane own was.1 there).came.told.pages_are ∙ ap (pages_of_space head.spaces) same
+
 -- the spaces of a head
 pub wanted_all : {D : Type 0} (old : Site D) (heads : SiteHead) → IsMadeSite old → IsHead (head_of heads) → (n : ℕ) → IsWanted None (head_of heads) n → n < length old.lanes.items
 wanted_all old heads made head n w = omega (arith, w, head.few, made.count)
@@ -119,3 +127,17 @@ head_is old wanted a b same within = subst (λ (h : Head). (n : ℕ) → IsWante
 pub space_within : (heads : SiteHead) (space : ℕ) (b : Head) → head_of heads ≡ b → space < length heads.spaces.items → (n : ℕ) → IsWanted (Some space) b n → n < length b.spaces
 space_within heads space b same lt n w =
     let here : space < length b.spaces = subst (λ (h : Head). space < length h.spaces) same (omega (arith, lt, length-map heads.spaces.items space_in)) in omega (arith, here, w)
+
+-- a fault of lanes names a lost chunk
+pub lanes_named : (wanted : Option ℕ) (head : Head) (fault : SiteFault) → IsLanesFault wanted head fault → IsNamed head.spaces fault
+lanes_named wanted head (LostChunk space name) is = is
+lanes_named wanted head OutOfMemory is = tt
+lanes_named wanted head (DiskFault disk) is = tt
+lanes_named wanted head NotFormatted is = tt
+lanes_named wanted head AlreadyFormatted is = tt
+lanes_named wanted head (BadRecord disk slot) is = tt
+lanes_named wanted head (NeedsRestart number) is = tt
+lanes_named wanted head (NoSuchSpace name) is = tt
+lanes_named wanted head (NoSuchPage page) is = tt
+lanes_named wanted head LogLost is = tt
+lanes_named wanted head (LogFull why) is = tt

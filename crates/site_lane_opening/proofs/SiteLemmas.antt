@@ -1,5 +1,5 @@
 -- The lanes of a site as a part of it.
-use Rattle.std.proofs.Common.{◌≡◌, ℕ, List, Option, refl, sym, subst}
+use Rattle.std.proofs.Common.{◌≡◌, ℕ, List, Option, sym, subst}
 use Rattle.std.specs.Option.{option_map}
 use Rattle.site_disk.specs.Ledger.{EraView}
 use Rattle.site_disk.specs.declared.disk.Disk.{Ghosts}
@@ -11,6 +11,7 @@ use Rattle.site_lanes.specs.declared.refusals.LanesFault.{LanesFault}
 use Rattle.site_model.specs.declared.disk_name.DiskName.TheVariants.{Chunk}
 use Rattle.site_core.specs.Disks.{MayUseAll, may_or}
 use Rattle.site_core.specs.Faults.{of_lanes}
+use Rattle.site_core.specs.declared.faults.SiteFault.{SiteFault}
 use Rattle.site_core.specs.declared.site.Site.{Site}
 use Rattle.site_lane_opening.specs.Steps.{Coming, Opens, Stops, StopsSite}
 
@@ -29,10 +30,10 @@ module _ {D : Type 0} (disk : Ghosts D) (era : EraView) (old : Site D) where
     pub opens_borrowed : Opens disk wanted head era lanes moved → Opens disk wanted head era old.lanes.items items
     opens_borrowed = borrowed (Opens disk wanted head era)
 
-    pub stops_borrowed : (refused : Coming disk) (to : ℕ) (own : LanesFault) → Stops disk wanted head era refused to own lanes moved → (new : Site D) → new.lanes.items ≡ items
-        → StopsSite disk wanted head era refused to (of_lanes own) old new
-    stops_borrowed refused to own stops new there = record {
+    pub stops_borrowed : (refused : Coming disk) (to : ℕ) (own : LanesFault) (fault : SiteFault) → fault ≡ of_lanes head.spaces own → Stops disk wanted head era refused to own lanes moved → (new : Site D) → new.lanes.items ≡ items
+        → StopsSite disk wanted head era refused to fault old new
+    stops_borrowed refused to own fault is stops new there = record {
       own = own;
-      fault_is = refl;
+      fault_is = is;
       stops = subst (λ (l : List (Lane D)). Stops disk wanted head era refused to own old.lanes.items l) (sym there) (borrowed (Stops disk wanted head era refused to own) stops);
     }

@@ -105,8 +105,8 @@ module _ {D : Type 0} (disk : Ghosts D) (counts : (it : D) (f g : ℕ) (c : List
           | inr (lt, inr refuses) ↦ inr (refusal_keeps refuses.0)
         ])
       where
-        failed_is : (own : LanesFault) → FailsOne disk wanted head own old.lanes.items new.lanes.items → IsFailure (of_lanes own)
-        failed_is own fails = subst (λ (f : LanesFault). IsFailure (of_lanes f)) (sym fails.fault_is) tt
+        failed_is : (own : LanesFault) → FailsOne disk wanted head own old.lanes.items new.lanes.items → IsFailure (of_lanes head.spaces own)
+        failed_is own fails = subst (λ (f : LanesFault). IsFailure (of_lanes head.spaces f)) (sym fails.fault_is) tt
 
   -- a site that the chunks show
 
@@ -226,7 +226,7 @@ module _ {D : Type 0} (disk : Ghosts D) (counts : (it : D) (f g : ℕ) (c : List
         → MatchResult result (λ a. LanesLeft disk wanted era.number at old new) (λ fault. IsFailure fault ⊎ LanesLeft disk wanted era.number at old new)
     left_by refused to (Ok a) opens = lanes_left (ToOpened disk (era_behind era) at.site.head.site) opens
     left_by refused to (Err fault) stops = elim stops.stops [
-      | inl syncing ↦ inl (subst IsFailure (sym (stops.fault_is ∙ ap of_lanes syncing.1.fault_is)) tt)
+      | inl syncing ↦ inl (subst IsFailure (sym (stops.fault_is ∙ ap (of_lanes head_here.spaces) syncing.1.fault_is)) tt)
       | inr (lt, inl failed) ↦ inr (lanes_left (ToAny disk) failed.0)
       | inr (lt, inr refuses) ↦ inr (lanes_left refused refuses.0)
     ]
@@ -375,7 +375,7 @@ module _ {D : Type 0} (disk : Ghosts D) (counts : (it : D) (f g : ℕ) (c : List
         (is_lost lane.0)
 
     pub one_refusal : (space : ℕ) → ((n : ℕ) → IsWanted wanted head_here n → n ≡ space) → (own : LanesFault) → RefusesBy disk wanted head_here own old.lanes.items
-        → Some (fault_in (of_lanes own)) ≡ if_this_lost space at.site
+        → Some (fault_in (of_lanes head_here.spaces own)) ≡ if_this_lost space at.site
     one_refusal space only (ChunkLost n) refuses =
         let is = refuses tells in
         let lane = lane_at n is.is_wanted in
@@ -385,7 +385,7 @@ module _ {D : Type 0} (disk : Ghosts D) (counts : (it : D) (f g : ℕ) (c : List
     one_refusal space only (Failed n) refuses = absurd refuses
 
     pub all_refusal : ((n : ℕ) → n < length at.site.lanes → IsWanted wanted head_here n) → (own : LanesFault) → RefusesBy disk wanted head_here own old.lanes.items
-        → Some (fault_in (of_lanes own)) ≡ if_any_lost at.site
+        → Some (fault_in (of_lanes head_here.spaces own)) ≡ if_any_lost at.site
     all_refusal all (ChunkLost n) refuses =
         let is = refuses tells in
         let lane = lane_at n is.is_wanted in
@@ -398,10 +398,10 @@ module _ {D : Type 0} (disk : Ghosts D) (counts : (it : D) (f g : ℕ) (c : List
     all_refusal all (BadMark n) refuses = absurd (never_bad n (refuses tells))
     all_refusal all (Failed n) refuses = absurd refuses
 
-    failure : (own : LanesFault) → FailsOne disk wanted head_here own old.lanes.items new.lanes.items → IsFailure (of_lanes own)
-    failure own fails = subst (λ (f : LanesFault). IsFailure (of_lanes f)) (sym fails.fault_is) tt
+    failure : (own : LanesFault) → FailsOne disk wanted head_here own old.lanes.items new.lanes.items → IsFailure (of_lanes head_here.spaces own)
+    failure own fails = subst (λ (f : LanesFault). IsFailure (of_lanes head_here.spaces f)) (sym fails.fault_is) tt
 
-    refusal_by : (refused : Coming disk) (to : ℕ) (told : Option Fault) → ((own : LanesFault) → RefusesBy disk wanted head_here own old.lanes.items → Some (fault_in (of_lanes own)) ≡ told)
+    refusal_by : (refused : Coming disk) (to : ℕ) (told : Option Fault) → ((own : LanesFault) → RefusesBy disk wanted head_here own old.lanes.items → Some (fault_in (of_lanes head_here.spaces own)) ≡ told)
         → (fault : SiteFault) → StopsSite disk wanted head_here era refused to fault old new → IsFailure fault ⊎ (Some (fault_in fault) ≡ told)
     refusal_by refused to told means fault site =
         subst (λ (f : SiteFault). IsFailure f ⊎ (Some (fault_in f) ≡ told)) (sym site.fault_is)

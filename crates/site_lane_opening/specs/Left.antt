@@ -4,6 +4,7 @@ use Rattle.site_disk.specs.declared.disk.Disk.{Ghosts}
 use Rattle.site_headers.specs.Heads.{Head}
 use Rattle.site_model.specs.declared.disk_name.DiskName.{DiskName}
 use Rattle.site_model.specs.declared.disk_name.DiskName.TheVariants.{Cat, Spare, Boot, Log, Volume, Chunk}
+use Rattle.site_model.specs.Runs.{name_at}
 use Rattle.space_lane.specs.declared.lane.Lane.{Lane}
 use Rattle.site_worlds.specs.Worlds.{LaneState}
 use Rattle.site_worlds.specs.Lanes.{pages_of_space}
@@ -24,10 +25,10 @@ IsWantedChunk wanted head Boot = ⊥
 IsWantedChunk wanted head Log = ⊥
 IsWantedChunk wanted head (Volume n) = ⊥
 
--- a chunk is lost, its mark is bad, or the disk of a wanted one failed
+-- a chunk is lost, which is named, its mark is bad, or the disk of a wanted one failed
 abbrev pub IsLanesFault : Option ℕ → Head → SiteFault → Type 0
 IsLanesFault wanted head (DiskFault name) = IsWantedChunk wanted head name
-IsLanesFault wanted head (ChunkLost n) = Unit {0}
+IsLanesFault wanted head (ChunkLost n name) = name ≡ name_at head.spaces n
 IsLanesFault wanted head (BadRecord name slot) = ((n : ℕ) × (name ≡ Chunk n)) × (slot ≡ no_slot)
 IsLanesFault wanted head OutOfMemory = ⊥
 IsLanesFault wanted head NotFormatted = ⊥

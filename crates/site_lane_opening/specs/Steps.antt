@@ -126,5 +126,5 @@ module _ {D : Type 0} (disk : Ghosts D) where
       -- as a fault of the site
       pub record StopsSite (refused : Coming) (to : ℕ) (fault : SiteFault) (old new : Site D) : Type 0 where
         pub own : LanesFault
-        pub fault_is : fault ≡ of_lanes own
+        pub fault_is : fault ≡ of_lanes head.spaces own
         pub stops : Stops refused to own old.lanes.items new.lanes.items

@@ -3,10 +3,11 @@ ghost use Rattle.std.specs.Prelude.{◌≡◌, ◌⊎◌, ℕ, ◌+◌, ◌-◌,
 ghost use Rattle.site_disk.specs.Causes.{Rose};
 ghost use Rattle.site_headers.specs.Heads.{IsHead};
 ghost use Rattle.site_headers.specs.Views.{head_of};
-ghost use Rattle.space_lane.specs.Lanes.{IsOpen};
+ghost use Rattle.space_lane.specs.Lanes.{IsOpen, count_of};
 ghost use Rattle.site_lanes.specs.Lanes.{OfEach};
 ghost use Rattle.site_model.specs.declared.disk_name.DiskName.{DiskName};
 ghost use Rattle.site_model.specs.declared.status.Status.{Status};
+ghost use Rattle.site_worlds.specs.Lanes.{pages_of_space};
 ghost use Rattle.site_courses.specs.Courses.{if_this_lost};
 ghost use Rattle.site_layouts.specs.Stages.{HeldSite, StandsFor};
 ghost use Rattle.site_commands.specs.Commands.{AddsNone};
@@ -46,6 +47,12 @@ pub fn open_site_lane<D: Disk>(
     ensures leaves { IsTrue D.is_modelled → (at : HeldSite) → StandsFor (layers D.Disk) 2 era.old.number site.old at → head_of head.now ≡ at.site.head
         → ShowLanes D.Disk (Some space) at site.old
         → AddsNone (images_of D.Disk site.old) (images_of D.Disk site.new) ⊎ LanesLeft D.Disk (Some space) era.old.number at site.old site.new }
+    // It was synced but where its disk failed, and it ended in the second era behind where it is open.
+    ensures left { IsTrue D.is_modelled → (at : HeldSite) → StandsFor (layers D.Disk) 2 era.old.number site.old at → head_of head.now ≡ at.site.head
+        → ShowLanes D.Disk (Some space) at site.old
+        → MatchResult result (λ _. LanesLeft D.Disk (Some space) era.old.number at site.old site.new)
+        (λ fault. IsFailure fault ⊎ LanesLeft D.Disk (Some space) era.old.number at site.old site.new) }
+    ensures done { OnOk result (era.new.number ≡ era.old.number + 2) }
 
     // Whatever the chunk holds.
     ensures answers { IsTrue D.is_modelled → MatchResult result
@@ -56,6 +63,7 @@ pub fn open_site_lane<D: Disk>(
     ensures only { IfErr result (IsLanesFault (Some space) (head_of head.now)) }
     ensures failed { (name : DiskName) → IsErrOf result (SiteFault.DiskFault name) → Rose (faults_on D.Disk site.old name) (faults_on D.Disk site.new name) }
     ensures opened { OnOk result (OfEach (λ place lane. place ≡ space → IsOpen lane) site.new.lanes.items) }
+    ensures counted { OnOk result (OfEach (λ place lane. place ≡ space → count_of lane ≡ pages_of_space (head_of head.now).spaces space) site.new.lanes.items) }
     ensures made { IsMadeSite site.new }
 
     // What stays. At a refusal a crash leaves no more than before, and a read gives the same.

@@ -59,8 +59,10 @@ pub(crate) fn try_all<D: Disk>(
     ensures era_later { era.old.number ≤ era.new.number }
     ensures key { era.new.key ≡ era.old.key }
 {
-    try_lanes(&mut site.lanes, era, head)?;
-    Ok(())
+    match try_lanes(&mut site.lanes, era, head) {
+        Ok(()) => Ok(()),
+        Err(fault) => Err(SiteFault::of_lanes(fault, &head.spaces)),
+    }
 }
 
 // The lane of a space is refused, unless it was opened.
@@ -140,6 +142,8 @@ pub(crate) fn try_one<D: Disk>(
     ensures era_later { era.old.number ≤ era.new.number }
     ensures key { era.new.key ≡ era.old.key }
 {
-    try_lane(&mut site.lanes, era, head, space)?;
-    Ok(())
+    match try_lane(&mut site.lanes, era, head, space) {
+        Ok(()) => Ok(()),
+        Err(fault) => Err(SiteFault::of_lanes(fault, &head.spaces)),
+    }
 }

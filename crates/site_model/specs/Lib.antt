@@ -1,14 +1,4 @@
-pub mod Worlds
-pub mod Layouts
 pub mod Texts
 pub mod Runs
-pub mod Openings
-pub mod OpeningLaws
-pub mod Commands
-pub mod Stops
-pub mod RunsKeep
 pub mod LineLaws
-pub mod OpenRunsLaws
-pub mod Spelled
-pub mod LogLaws
 pub mod Exits

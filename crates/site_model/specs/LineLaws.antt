@@ -6,14 +6,18 @@ use Rattle.std.specs.Option.{ok_or}
 use Rattle.std.proofs.Common.{arith, ap, sym, subst, ◌∙◌}
 use Rattle.std.proofs.lemmas.Bool.{ltb-true}
 use Rattle.std.proofs.lemmas.Option.{some_pair_parts}
-use Rattle.log_history.specs.History.{LogEntry, History}
+use Rattle.log_history.specs.History.{LogEntry, History, write}
 use Rattle.log_history.specs.Transactions.{OpenTxn, table_back, table_of, lookup, refusal, unless_open, unless_new, open_back, last_time, MayFollow}
 use Rattle.txn_table.specs.OrderLaws.{lookup-table_back}
 use Rattle.onbar_grammar.specs.declared.Why.{Why}
 use Rattle.onbar_grammar.specs.declared.Why.TheVariants.{Words, NoSpace, NoPage, Range}
 use Rattle.onbar_grammar.specs.Numbers.{hex_bytes, is_name}
 use Rattle.onbar_grammar.specs.Script.{Space, Line, begin_line, write_line, commit_line, abort_line, entry_of_line, tokens_of, is_token, line_of_tokens, short_line_of, write_line_of, line_of, place_from, place_of, txn_number, any_number, unless, ◌>>=◌}
-use Rattle.site_model.specs.Worlds.{IsWithin}
+
+-- a Write is into a space of the site and a page that it has
+abbrev pub IsWithin : List Space → LogEntry → Type 0
+IsWithin spaces (write txn patch) = (space : Space) × (slice_get spaces patch.space ≡ Some space) × (patch.page < space.pages)
+IsWithin spaces entry = Unit {0}
 
 bound : {A B : Type 0} (read : Result A Why) (f : A → Result B Why) (y : B) → read >>= f ≡ Ok y → (x : A) × (read ≡ Ok x) × (f x ≡ Ok y)
 bound (Ok x) f y is = (x, refl, is)

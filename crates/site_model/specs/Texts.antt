@@ -10,7 +10,7 @@ use Rattle.site_model.specs.declared.disk_name.DiskName.TheVariants.{Cat, Spare,
 use Rattle.log_files.specs.declared.room.LogFull.{LogFull}
 use Rattle.log_files.specs.declared.room.LogFull.TheVariants.{NotBackedUp, Needed, Positions}
 use Rattle.site_model.specs.declared.status.Status.{Status}
-use Rattle.site_model.specs.declared.status.Status.TheVariants.{Ok as Done, Usage, ScriptFault, NotFormatted, AlreadyFormatted, BadRecord, NoSuchSpace, NoSuchPage, LogLost, LogFull as Full}
+use Rattle.site_model.specs.declared.status.Status.TheVariants.{Ok as Done, Usage, ScriptFault, NotFormatted, AlreadyFormatted, BadRecord, NoSuchSpace, NoSuchCopy, NoSuchPage, NoSuchLog, NeedsRestart, NothingToRestart, ChunkLost, LogLost, Refused, LogFull as Full, StoreFull, CatalogueFull, BootFull, TooManyObjects}
 
 abbrev pub line : List ℕ → List ℕ
 line text = text ++ 10 ∷ []
@@ -65,7 +65,7 @@ full_text (NotBackedUp file) = codes "log full: file " ++ (decimal file ++ line 
 full_text (Needed file txn) = codes "log full: file " ++ (decimal file ++ (codes " needed by transaction " ++ (decimal txn ++ 10 ∷ [])))
 full_text (Positions end) = line (codes "log full: no position left")
 
--- the last line that a command prints; nothing at the statuses that end it as a stop does, nor yet at those that no form answers
+-- The last line that a command prints; nothing at the statuses that end it as a stop does.
 abbrev pub status_text : Status → List ℕ
 status_text Done = line (codes "ok")
 status_text (Usage n) = codes "usage at word " ++ (decimal n ++ 10 ∷ [])
@@ -74,7 +74,17 @@ status_text NotFormatted = line (codes "not formatted")
 status_text AlreadyFormatted = line (codes "already formatted")
 status_text (BadRecord disk slot) = bad_record_text disk slot
 status_text (NoSuchSpace name) = codes "no such space " ++ (name ++ 10 ∷ [])
+status_text (NoSuchCopy n) = codes "no such copy " ++ (decimal n ++ 10 ∷ [])
 status_text (NoSuchPage n) = codes "no such page " ++ (decimal n ++ 10 ∷ [])
+status_text (NoSuchLog n) = codes "no such log " ++ (decimal n ++ 10 ∷ [])
+status_text (NeedsRestart n) = codes "restore " ++ (decimal n ++ line (codes " is active"))
+status_text NothingToRestart = line (codes "nothing to restart")
+status_text (ChunkLost name) = codes "chunk of " ++ (name ++ line (codes " lost"))
 status_text LogLost = line (codes "log lost")
+status_text (Refused lacking) = line (codes "refused")
 status_text (Full why) = full_text why
+status_text (StoreFull n) = codes "store full on volume " ++ (decimal n ++ 10 ∷ [])
+status_text CatalogueFull = line (codes "catalogue full")
+status_text BootFull = line (codes "boot file full")
+status_text TooManyObjects = line (codes "too many objects")
 status_text status = []

@@ -31,8 +31,8 @@ pub enum Status {
     /// A restore with this number is active.
     NeedsRestart(u64),
     NothingToRestart,
-    /// The chunk of this space has no valid header.
-    ChunkLost(u16),
+    /// The chunk of the space with this name has no valid header.
+    ChunkLost(Text<19>),
     LogLost,
     Refused(LackingList),
     LogFull(LogFull),

@@ -19,7 +19,7 @@ use Rattle.site_model.specs.declared.disk_name.DiskName.{DiskName}
 use Rattle.site_model.specs.declared.disk_name.DiskName.TheVariants.{Cat, Spare, Boot, Log, Volume, Chunk}
 use Rattle.site_model.specs.declared.status.Status.{Status}
 use Rattle.site_model.specs.declared.status.Status.TheVariants.{BadRecord, NeedsRestart, ChunkLost}
-use Rattle.site_model.specs.Runs.{show_refusal}
+use Rattle.site_model.specs.Runs.{name_at, show_refusal}
 use Rattle.site_layouts.specs.Stores.{catalogue_area}
 use Rattle.onbar_grammar.specs.Script.{place_of}
 use Rattle.backup_lines.specs.Spans.{Active}
@@ -48,7 +48,7 @@ module _ (contents : Contents_of) where
 
   lanes_excl : (wanted : Option ℕ) (head : Head) (status : Status) → LanesRefuse wanted head contents status → LanesAllow wanted head contents → ⊥
   lanes_excl wanted head status refuses allows = ⊎_elim
-      (λ (lost : (space : ℕ) × IsFirstLost wanted head contents space × (status ≡ ChunkLost space)). lost.1.is_lost (allows lost.0 lost.1.is_wanted).header)
+      (λ (lost : (space : ℕ) × IsFirstLost wanted head contents space × (status ≡ ChunkLost (name_at head.spaces space))). lost.1.is_lost (allows lost.0 lost.1.is_wanted).header)
       (λ (bad : (space : ℕ) × IsFirstBadChunk wanted head contents space × (status ≡ BadRecord (Chunk space) 4294967295)).
       let good : IsGoodChunk head bad.0 (contents (Chunk bad.0)) = allows bad.0 bad.1.is_wanted in bad.1.bad good.state good.mark)
       refuses
@@ -75,7 +75,7 @@ module _ (contents : Contents_of) where
 
   lanes_alike : (wanted : Option ℕ) (head : Head) (s t : Status) → LanesRefuse wanted head contents s → LanesRefuse wanted head contents t → NamesAsWell s t
   lanes_alike wanted head s t (inl a) (inl b) =
-      same_names s t (a.2 ∙ ap ChunkLost (one_space a.0 b.0 (lost_before wanted head a.0 b.0 a.1 b.1) (lost_before wanted head b.0 a.0 b.1 a.1)) ∙ sym b.2)
+      same_names s t (a.2 ∙ ap (λ (n : ℕ). ChunkLost (name_at head.spaces n)) (one_space a.0 b.0 (lost_before wanted head a.0 b.0 a.1 b.1) (lost_before wanted head b.0 a.0 b.1 a.1)) ∙ sym b.2)
   lanes_alike wanted head s t (inl a) (inr b) = absurd (lost_or_bad wanted head a.0 b.0 a.1 b.1)
   lanes_alike wanted head s t (inr a) (inl b) = absurd (lost_or_bad wanted head b.0 a.0 b.1 a.1)
   lanes_alike wanted head s t (inr a) (inr b) =

@@ -24,7 +24,7 @@ use Rattle.site_model.specs.declared.disk_name.DiskName.{DiskName}
 use Rattle.site_model.specs.declared.disk_name.DiskName.TheVariants.{Cat, Spare, Boot, Log, Volume, Chunk}
 use Rattle.site_model.specs.declared.status.Status.{Status}
 use Rattle.site_model.specs.declared.status.Status.TheVariants.{NotFormatted, AlreadyFormatted, BadRecord, NoSuchSpace, NoSuchPage, NeedsRestart, ChunkLost, LogLost}
-use Rattle.site_model.specs.Runs.{show_refusal}
+use Rattle.site_model.specs.Runs.{name_at, show_refusal}
 use Rattle.site_worlds.specs.Lanes.{pages_of_space}
 use Rattle.site_layouts.specs.Stores.{catalogue_area}
 
@@ -72,7 +72,7 @@ pub record IsFirstBadChunk (wanted : Option ℕ) (head : Head) (contents : Conte
 -- the lanes that are wanted refuse: the lowest one that is lost, else the lowest with a bad mark
 abbrev pub LanesRefuse : Option ℕ → Head → Contents_of → Status → Type 0
 LanesRefuse wanted head contents status =
-    ((space : ℕ) × IsFirstLost wanted head contents space × (status ≡ ChunkLost space))
+    ((space : ℕ) × IsFirstLost wanted head contents space × (status ≡ ChunkLost (name_at head.spaces space)))
     ⊎ ((space : ℕ) × IsFirstBadChunk wanted head contents space × (status ≡ BadRecord (Chunk space) no_slot))
 
 abbrev pub LanesAllow : Option ℕ → Head → Contents_of → Type 0
@@ -205,7 +205,7 @@ IsOfDisks (BadRecord disk slot) = Unit {0}
 IsOfDisks (NoSuchSpace name) = Unit {0}
 IsOfDisks (NoSuchPage n) = Unit {0}
 IsOfDisks (NeedsRestart number) = Unit {0}
-IsOfDisks (ChunkLost space) = Unit {0}
+IsOfDisks (ChunkLost name) = Unit {0}
 IsOfDisks status = ⊥
 
 -- Two statuses name the same bad disk, or are the same: which slot is named where a disk ends before its slots, although gates of it are

@@ -21,7 +21,7 @@ use Rattle.course_laws.specs.Leading.{LeadsFrom, leads_check, leads_none, leads_
 use Rattle.course_laws.specs.AppendingLaws.{active_none, ring_there}
 use Rattle.site_model.specs.LineLaws.{line_within, line_follows}
 use Rattle.site_model.specs.Runs.{Collected, Taken, nothing, joined, bad, ends_batch, join, take_meaning, take_text, time_after, unless_refused}
-use Rattle.site_model.specs.Worlds.{IsWithin as IsLineWithin}
+use Rattle.site_model.specs.LineLaws.{IsWithin as IsLineWithin}
 use Rattle.site_runs.specs.Scripts.{ScriptState, Ending, Outcome, goes_on, appends, ends, append_collected, ends_by, ended, if_refused, after_batch, after_taken, after_fault, step_line, go_on, run_lines, first_state, script_course, transactions_of}
 use Rattle.site_runs.specs.Places.{GoesOnFrom, KeepsUpTo, Keeps, TakesOn, leads, appended_keeps, wider}
 

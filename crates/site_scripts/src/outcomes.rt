@@ -101,7 +101,7 @@ pub fn stop_of(fault: SiteFault) -> Stop
         | SiteFault::NeedsRestart(_)
         | SiteFault::NoSuchSpace(_)
         | SiteFault::NoSuchPage(_)
-        | SiteFault::ChunkLost(_)
+        | SiteFault::ChunkLost { .. }
         | SiteFault::LogLost => unreachable!(),
     }
 }

@@ -1,19 +1,20 @@
-// A site whose disks stop while it is formatted.
+//! A site whose disks stop while it is formatted.
 use site_disk::OutOfMemory;
+use site_model::DiskName;
 use std::alloc::Global;
 use std::test::Fail;
 use std::thread::Threads;
-use trial_site::{Disks, Trouble, command};
+use trial_site::{Bytes, INIT, Plan, Trouble, command, extend};
 
 /// What the next commands tell of disks: that the site is blank, or that it is whole.
 fn is_whole<R: Threads + Sync>(
     rt: &R,
     alloc: Global,
-    disks: Disks<'_>,
+    bytes: &Bytes,
 ) -> Result<Option<bool>, OutOfMemory> {
-    let ended = command(rt, alloc, "-T", disks, b"")?;
-    let next = command(rt, alloc, "-init A:4", disks, b"")?;
-    if ended.is("not formatted\n", "NotFormatted") && next.is("space A pages 4\nok\n", "Ok") {
+    let ended = extend(rt, alloc, bytes, b"")?;
+    let next = command(rt, alloc, INIT.words, bytes, &Plan::NONE, b"")?;
+    if ended.is("not formatted\n", "NotFormatted") && next.is(INIT.text, INIT.status) {
         return Ok(Some(false));
     }
     if ended.is("lines 0 commits 0 end 0\nok\n", "Ok")
@@ -29,54 +30,54 @@ fn is_whole<R: Threads + Sync>(
 fn stopped<R: Threads + Sync>(
     rt: &R,
     alloc: Global,
+    name: DiskName,
     trouble: Trouble,
     seed: u64,
-) -> Result<(bool, Option<bool>), OutOfMemory> {
-    let disks = Disks {
-        cat: &[],
-        log: &[],
-        trouble,
+) -> Result<(bool, bool), Fail> {
+    let troubles = [(name, trouble)];
+    let plan = Plan {
+        troubles: &troubles,
         crash: Some(seed),
     };
-    let left = command(rt, alloc, "-init A:4", disks, b"")?;
+    let left = command(rt, alloc, INIT.words, &Bytes::blank(alloc), &plan, b"")?;
     let cut = left.status.as_str() != "Ok" && left.text.is_empty();
-    Ok((cut, is_whole(rt, alloc, Disks::of(&left.cat, &left.log))?))
+    let whole = is_whole(rt, alloc, &left.bytes)?;
+    Ok((cut, whole.ok_or("another end")?))
 }
 
-/// The log is formatted first: where its disk stops, the site is blank.
+// The disks that are formatted before the catalogue's header is opened, and how many calls each has.
+static DISKS: [(DiskName, u64); 5] = [
+    (DiskName::Spare, 30),
+    (DiskName::Boot, 32),
+    (DiskName::Log, 25),
+    (DiskName::Volume(16), 9),
+    (DiskName::Chunk(0), 38),
+];
+
 #[test]
-fn a_stop_of_the_log_leaves_a_blank_site(rt: HostRuntime) -> Result<(), Fail> {
+fn a_stop_of_another_disk_leaves_a_blank_site(rt: HostRuntime) -> Result<(), Fail> {
     let alloc = rt.alloc();
-    let mut found = [false; 2];
-    for call in 1..=40 {
-        for bytes in [0, 1, 4_096] {
-            for seed in 0..2 {
-                let trouble = Trouble::Stops(call, bytes);
-                let (cut, whole) = stopped(&rt, alloc, trouble, seed)?;
-                assert!(rt;
-                    whole == Some(!cut),
-                    "call {call}, byte {bytes}, seed {seed}"
-                );
-                found[0] |= cut;
-                found[1] |= !cut;
-            }
+    for (name, calls) in DISKS {
+        for call in (1..=calls + 1).step_by(4) {
+            let trouble = Trouble::Stops(call, 1_000);
+            let (cut, whole) = stopped(&rt, alloc, name, trouble, call)?;
+            assert!(rt; whole != cut, "{name} call {call}");
+            assert!(rt; cut == (call <= calls), "{name} call {call}");
         }
     }
-    assert_eq!(rt; found, [true; 2]);
     Ok(())
 }
 
-/// The catalogue's calls end with the header's page, a sync, its gate and a sync.
+/// The catalogue's calls end with the header's page, a sync, its gate and a sync: 51 in all.
 #[test]
 fn a_stop_of_the_catalogue_leaves_a_blank_site_or_a_whole_one(rt: HostRuntime) -> Result<(), Fail> {
     let alloc = rt.alloc();
     let mut found = [false; 3];
-    for call in 1..=16 {
-        for bytes in [0, 1, 2_048, 4_096] {
+    for call in 45..=52 {
+        for bytes in [0, 1, 2_048] {
             for seed in 0..4 {
-                let trouble = Trouble::StopsCatalogue(call, bytes);
-                let (cut, whole) = stopped(&rt, alloc, trouble, seed)?;
-                let whole = whole.ok_or("another end")?;
+                let trouble = Trouble::Stops(call, bytes);
+                let (cut, whole) = stopped(&rt, alloc, DiskName::Cat, trouble, seed)?;
                 assert!(rt; cut || whole, "call {call}, byte {bytes}, seed {seed}");
                 found[0] |= cut && !whole;
                 found[1] |= cut && whole;

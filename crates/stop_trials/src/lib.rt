@@ -6,6 +6,8 @@ mod disks;
 #[cfg(test)]
 mod formatting;
 #[cfg(test)]
+mod lanes;
+#[cfg(test)]
 mod stories;
 #[cfg(test)]
 mod streams;

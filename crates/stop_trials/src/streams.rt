@@ -1,9 +1,9 @@
-// Scripts and sinks that break off.
+//! Scripts and sinks that break off.
 ghost use Rattle.std.specs.Prelude.{◌≡◌, [], false};
 
 use site_disk::{Failed, MemSink, MemSource, Sink, Source};
 use std::test::Fail;
-use trial_site::{Disks, begins, catalogue, empty_log, end_of, run};
+use trial_site::{INIT, Plan, begins, end_of, formatted, run};
 
 /// A script that comes byte by byte, and fails behind its last.
 #[derive(Drop)]
@@ -65,18 +65,17 @@ impl Sink for Narrow {
 fn a_script_that_breaks_off_leaves_whole_batches(rt: HostRuntime) -> Result<(), Fail> {
     let alloc = rt.alloc();
     let script = begins(alloc, 40)?;
-    let (cat, log) = (catalogue(), empty_log(alloc)?);
-    for (len, _) in script.iter().enumerate() {
+    let site = formatted(&rt, alloc, INIT.words)?;
+    for len in (0..script.len()).step_by(9) {
         let mut source = Broken {
             rest: script.get(..len).ok_or("a front")?,
             faults: 0,
         };
         let mut sink = MemSink::new(alloc, Vec::new(alloc));
-        let disks = Disks::of(&cat, &log);
-        let ended = run(&rt, alloc, "-T", disks, &mut source, &mut sink)?;
+        let ended = run(&rt, alloc, "-T", &site, &Plan::NONE, &mut source, &mut sink)?;
         assert!(rt; ended.is("", "ReadFault"), "at {len}");
         assert!(rt; sink.taken().is_empty(), "at {len}");
-        let end = end_of(&rt, alloc, &ended.log)?;
+        let end = end_of(&rt, alloc, &ended.bytes)?;
         assert_eq!(rt; end, Some(if len < 279 { 0 } else { 32 }), "at {len}");
     }
     Ok(())
@@ -86,7 +85,7 @@ fn a_script_that_breaks_off_leaves_whole_batches(rt: HostRuntime) -> Result<(), 
 fn a_sink_that_fails_has_a_front_of_the_text(rt: HostRuntime) -> Result<(), Fail> {
     let alloc = rt.alloc();
     let text = b"lines 40 commits 0 end 40\nok\n".as_slice();
-    let (cat, log) = (catalogue(), empty_log(alloc)?);
+    let site = formatted(&rt, alloc, INIT.words)?;
     for room in 0..=29 {
         let mut source = MemSource::new(alloc, begins(alloc, 40)?, Vec::new(alloc));
         let mut sink = Narrow {
@@ -94,15 +93,14 @@ fn a_sink_that_fails_has_a_front_of_the_text(rt: HostRuntime) -> Result<(), Fail
             room,
             faults: 0,
         };
-        let disks = Disks::of(&cat, &log);
-        let ended = run(&rt, alloc, "-T", disks, &mut source, &mut sink)?;
+        let ended = run(&rt, alloc, "-T", &site, &Plan::NONE, &mut source, &mut sink)?;
         let want = if room < 29 { "WriteFault" } else { "Ok" };
         assert!(rt; ended.is("", want), "at {room}");
         assert!(rt;
             sink.taken.len() == room && text.starts_with(&sink.taken),
             "at {room}"
         );
-        let end = end_of(&rt, alloc, &ended.log)?;
+        let end = end_of(&rt, alloc, &ended.bytes)?;
         assert_eq!(rt; end, Some(40), "at {room}");
     }
     Ok(())

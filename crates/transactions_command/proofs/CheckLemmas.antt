@@ -61,15 +61,6 @@ pub not_disk : {A : Type 0} (result : Result A SiteFault) (given fault : SiteFau
     → result ≡ Err (DiskFault name) → ⊥
 not_disk result given fault name result_is given_is other is = subst IsNoDisk (sym result_is ∙ is) (subst IsNoDiskFault (sym given_is) other)
 
--- a fault that was handed on names the same disk
-same_fault : {A : Type 0} (result : Result A SiteFault) (fault other : SiteFault) → result ≡ Err fault → result ≡ Err other → fault ≡ other
-same_fault result fault other is also = let e : fault ≡ other = cc in e
-
-pub names_disk : {A B : Type 0} (result : Result A SiteFault) (given fault : SiteFault) (name : DiskName) (first : Result B SiteFault) → result ≡ Err given → given ≡ fault
-    → result ≡ Err (DiskFault name) → first ≡ Err fault → first ≡ Err (DiskFault name)
-names_disk result given fault name first result_is given_is is first_is =
-    first_is ∙ ap (λ (f : SiteFault). Err f) (sym given_is ∙ same_fault result given (DiskFault name) result_is is)
-
 pub failure_or : (fault : SiteFault) → IsFailure fault ⊎ (IsFailure fault → ⊥)
 failure_or OutOfMemory = inl tt
 failure_or (DiskFault disk) = inl tt
@@ -79,7 +70,7 @@ failure_or (BadRecord disk slot) = inr (λ is. is)
 failure_or (NeedsRestart number) = inr (λ is. is)
 failure_or (NoSuchSpace name) = inr (λ is. is)
 failure_or (NoSuchPage page) = inr (λ is. is)
-failure_or (ChunkLost space) = inr (λ is. is)
+failure_or (ChunkLost space name) = inr (λ is. is)
 failure_or LogLost = inr (λ is. is)
 failure_or (LogFull why) = inr (λ is. is)
 

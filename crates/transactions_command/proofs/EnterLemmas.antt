@@ -18,7 +18,7 @@ use Rattle.site_commands.specs.Commands.{AddsNone}
 use Rattle.site_courses.specs.Faults.{Fault}
 use Rattle.site_courses.specs.Courses.{if_any_lost}
 use Rattle.site_core.specs.declared.faults.SiteFault.{SiteFault}
-use Rattle.site_core.specs.Faults.{IsFailure, fault_in}
+use Rattle.site_core.specs.Faults.{IsFailure, IsNamed, fault_in}
 use Rattle.transactions_command.specs.Entering.{IsRefusedAt, MayStay, ShowsUsed, StaysIn, if_unready, is_used}
 
 is_within : (n most : ℕ) → n ≤ most → nat_le n most ≡ true
@@ -111,15 +111,16 @@ module _ {D : Type 0} (disk : Ghosts D) where
       → if_unready at.site ≡ None
       → AddsNone (images_of disk mid) (images_of disk new) ⊎ LanesLeft disk None (era + 2) at mid new
       → IsFailure fault ⊎ LanesLeft disk None (era + 2) at mid new
-      → IsFailure fault ⊎ (Some (fault_in fault) ≡ if_any_lost at.site)
+      → IsFailure fault ⊎ (Some (fault_in fault) ≡ if_any_lost at.site) → IsNamed at.site.head.spaces fault
       → MayStay disk era to.number at old new × (IsFailure fault ⊎ IsRefusedAt disk era to.number at old new fault)
-  enters_refused reads_as era to at old mid new fault none stands shown second may ready leaves left lost = (
+  enters_refused reads_as era to at old mid new fault none stands shown second may ready leaves left lost named = (
     ⊎_elim (λ adds. inl (λ f name bytes image. none f name bytes (adds f name bytes image)))
         (λ left. inr (stays_in era to.number at old mid new none stands shown second left)) leaves,
     ⊎_elim (λ failed. inl failed) (λ left. ⊎_elim (λ failed. inl failed) (λ is.
         let stays = stays_in era to.number at old mid new none stands shown second left in
         inr (record {
           refusal = ap (λ (o : Option Fault). option_or o (if_any_lost at.site)) ready ∙ sym is;
+          named = named;
           still = inr (stays, shows_still reads_as era to at old new may stays);
         })) lost) left,
   )

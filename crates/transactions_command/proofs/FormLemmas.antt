@@ -65,7 +65,7 @@ failure_cuts (BadRecord disk slot) is = absurd is
 failure_cuts (NeedsRestart number) is = absurd is
 failure_cuts (NoSuchSpace name) is = absurd is
 failure_cuts (NoSuchPage page) is = absurd is
-failure_cuts (ChunkLost space) is = absurd is
+failure_cuts (ChunkLost space name) is = absurd is
 failure_cuts LogLost is = absurd is
 failure_cuts (LogFull why) is = absurd is
 
@@ -139,21 +139,21 @@ module _ {D : Type 0} (disk : Ghosts D) (from : ℕ) (old : Values D) where
       work : HasDone true start (is_used at) (world_of at) run (status_in fault) after (contents_of disk new) (to + 1) (images_of disk new)
       work = ⊎_elim
           (λ kept. done_none true start (is_used at) (world_of at) run (status_in fault) after (contents_of disk new) (to + 1) (images_of disk new)
-          none_made kept.0.images kept.1 shown.1 (λ reads. (tells_refusal at.site fault is.refusal).read run.left after))
+          none_made kept.0.images kept.1 shown.1 (λ reads. (tells_refusal at.site fault is.refusal is.named).read run.left after))
           (λ still. record {
             last = world_of at;
             last_is = ap (λ (moves : List WorldMove). after_all world_rules moves (formatted at.site)) (sym none_made);
             stand = still.1;
             crash = inr (λ f name bytes le image. follows_still at to new still.0 f name bytes (let second = still.0.second in omega (arith, second, le)) image);
-            script = λ reads. (tells_refusal at.site fault is.refusal).read run.left after;
+            script = λ reads. (tells_refusal at.site fault is.refusal is.named).read run.left after;
           })
           is.still
 
       refused_done : IsDone true start (is_used at) (world_of at) run after (contents_of disk new) (to + 1) (images_of disk new) (Err (status_in fault))
       refused_done =
-          let tells = tells_refusal at.site fault is.refusal in record {
-            status = ap (λ (c : Course Move Fault). status_of c.fault) course_is ∙ tells.status;
-            text = ap (λ (c : Course Move Fault). run_text at.site.history (site_behind c at.site).history c.fault) course_is ∙ refusal_text fault at.site.history (site_behind (only (Some (fault_in fault))) at.site).history tells;
+          let tells = tells_refusal at.site fault is.refusal is.named in record {
+            status = ap (λ (c : Course Move Fault). status_of at.site.head.spaces c.fault) course_is ∙ tells.status;
+            text = ap (λ (c : Course Move Fault). run_text at.site.head.spaces at.site.history (site_behind c at.site).history c.fault) course_is ∙ refusal_text at.site.head.spaces fault at.site.history (site_behind (only (Some (fault_in fault))) at.site).history tells;
             work = work;
           }
 
@@ -280,11 +280,11 @@ module _ {D : Type 0} (disk : Ghosts D) (from : ℕ) (old : Values D) where
           let done = done_course (layers disk) start (is_used at) new at (run_form moment script transactions_form (formatted at.site)) (transactions_of moment script at.site) refl
           true (status_of_end told.ending) after (contents_of disk new) to (to + 1) (omega arith) reads_as (λ reads. read_so told.ending to_end at.site is)
           now mid (end_fault told.ending) (ran (end_fault told.ending) call at ready) (uncut told.ending) in record {
-            status = ap status_of (sym done.1) ∙ end_status told.ending;
-            text = ap (λ (c : Course Move Fault). run_text at.site.history (site_behind c at.site).history c.fault) same
-                ∙ ap (λ (o : Option Fault). run_text at.site.history (site_behind (script_course moment script at.site) at.site).history o)
+            status = ap (status_of at.site.head.spaces) (sym done.1) ∙ end_status at.site.head.spaces told.ending;
+            text = ap (λ (c : Course Move Fault). run_text at.site.head.spaces at.site.history (site_behind c at.site).history c.fault) same
+                ∙ ap (λ (o : Option Fault). run_text at.site.head.spaces at.site.history (site_behind (script_course moment script at.site) at.site).history o)
                 (sym (done.1 ∙ ap (λ (c : Course Move Fault). c.fault) same))
-                ∙ told_text at.site.history _ is.added told is.history is.lines is.commits is.end;
+                ∙ told_text at.site.head.spaces at.site.history _ is.added told is.history is.lines is.commits is.end;
             work = done.0;
           }
 

@@ -5,8 +5,9 @@ use Rattle.std.proofs.lemmas.List.{append-nil}
 use Rattle.log_history.specs.History.{History}
 use Rattle.log_history.specs.Transactions.{Table}
 use Rattle.backup_lines.specs.Spans.{Active}
-use Rattle.onbar_grammar.specs.Script.{Raw}
+use Rattle.onbar_grammar.specs.Script.{Raw, Space}
 use Rattle.site_model.specs.Texts.{extension_text, status_text}
+use Rattle.site_model.specs.declared.status.Status.TheVariants.{ChunkLost as Lost}
 use Rattle.walks.specs.Courses.{Course, behind_moves, only, then_do, unless_fault}
 use Rattle.walks.specs.CoursesLaws.{then_next, then_none}
 use Rattle.site_worlds.specs.Worlds.{LaneState, Ring, Site, stands, blank, merges, replays, stale, lost}
@@ -18,8 +19,9 @@ use Rattle.site_scripts.specs.Extending.{MayRun}
 use Rattle.site_runs.specs.Scripts.{script_course, transactions_of}
 use Rattle.site_core.specs.declared.faults.SiteFault.{SiteFault}
 use Rattle.site_core.specs.declared.faults.SiteFault.TheVariants.{OutOfMemory, DiskFault, NotFormatted, AlreadyFormatted, BadRecord, NeedsRestart, NoSuchSpace, NoSuchPage, ChunkLost, LogLost, LogFull}
-use Rattle.site_core.specs.Faults.{fault_in, status_in}
+use Rattle.site_core.specs.Faults.{IsNamed, fault_in, status_in}
 use Rattle.site_commands.specs.Commands.{HasRead}
+use Rattle.site_forms.specs.PassingLaws.{IsOfNoChunk, no_chunk_named, no_chunk_or}
 use Rattle.site_commands.specs.Runs.{run_text, status_in as status_of_refusal, tells_counts}
 use Rattle.transactions_command.specs.Entering.{if_refused, if_unready}
 
@@ -91,31 +93,45 @@ of_entry : (site : Site) → IsOfEntry (if_refused site)
 of_entry site = of_both (if_unready site) (if_any_lost site) (of_both (if_active site) (if_log_lost site) (of_active site.active) (of_ring site.ring)) (of_lanes 0 site.lanes)
 
 -- a fault that is such a refusal: its status, and it tells no counts
-pub record TellsRefusal (fault : SiteFault) : Type 0 where
-  pub status : status_of_refusal (fault_in fault) ≡ status_in fault
+pub record TellsRefusal (spaces : List Space) (fault : SiteFault) : Type 0 where
+  pub status : status_of_refusal spaces (fault_in fault) ≡ status_in fault
   pub counts : tells_counts (Some (fault_in fault)) ≡ false
   pub read : (left : List Raw) (after : List ℕ) → HasRead (status_in fault) left after
 
-of_fault : (fault : SiteFault) → IsOfEntry (Some (fault_in fault)) → TellsRefusal fault
-of_fault OutOfMemory is = absurd is
-of_fault (DiskFault disk) is = absurd is
-of_fault NotFormatted is = absurd is
-of_fault AlreadyFormatted is = absurd is
-of_fault (BadRecord disk slot) is = absurd is
-of_fault (NeedsRestart number) is = record { status = refl; counts = refl; read = λ left after. tt }
-of_fault (NoSuchSpace name) is = absurd is
-of_fault (NoSuchPage page) is = absurd is
-of_fault (ChunkLost space) is = record { status = refl; counts = refl; read = λ left after. tt }
-of_fault LogLost is = record { status = refl; counts = refl; read = λ left after. tt }
-of_fault (LogFull why) is = absurd is
+of_fault : (spaces : List Space) (fault : SiteFault) → IsOfEntry (Some (fault_in fault)) → IsNamed spaces fault → TellsRefusal spaces fault
+of_fault spaces OutOfMemory is named = absurd is
+of_fault spaces (DiskFault disk) is named = absurd is
+of_fault spaces NotFormatted is named = absurd is
+of_fault spaces AlreadyFormatted is named = absurd is
+of_fault spaces (BadRecord disk slot) is named = absurd is
+of_fault spaces (NeedsRestart number) is named = record { status = refl; counts = refl; read = λ left after. tt }
+of_fault spaces (NoSuchSpace name) is named = absurd is
+of_fault spaces (NoSuchPage page) is named = absurd is
+of_fault spaces (ChunkLost space name) is named = record { status = ap Lost (sym named); counts = refl; read = λ left after. tt }
+of_fault spaces LogLost is named = record { status = refl; counts = refl; read = λ left after. tt }
+of_fault spaces (LogFull why) is named = absurd is
 
-pub tells_refusal : (site : Site) (fault : SiteFault) → if_refused site ≡ Some (fault_in fault) → TellsRefusal fault
-tells_refusal site fault is = of_fault fault (subst IsOfEntry is (of_entry site))
+pub tells_refusal : (site : Site) (fault : SiteFault) → if_refused site ≡ Some (fault_in fault) → IsNamed site.head.spaces fault → TellsRefusal site.head.spaces fault
+tells_refusal site fault is named = of_fault site.head.spaces fault (subst IsOfEntry is (of_entry site)) named
+
+-- what refuses a site before its lanes are looked at is of no chunk
+
+no_chunk_active : (active : Option Active) → IsOfNoChunk (option_map (λ restore. needs_restart restore.number) active)
+no_chunk_active None = tt
+no_chunk_active (Some restore) = tt
+
+no_chunk_ring : (ring : Option Ring) → IsOfNoChunk (if_no_ring ring)
+no_chunk_ring None = tt
+no_chunk_ring (Some ring) = tt
+
+pub unready_named : (site : Site) (fault : SiteFault) → if_unready site ≡ Some (fault_in fault) → IsNamed site.head.spaces fault
+unready_named site fault is =
+    no_chunk_named site.head.spaces fault (subst IsOfNoChunk is (no_chunk_or (if_active site) (if_log_lost site) (no_chunk_active site.active) (no_chunk_ring site.ring)))
 
 -- the text of such a refusal is its status
-pub refusal_text : (fault : SiteFault) (before after : History) → TellsRefusal fault → run_text before after (Some (fault_in fault)) ≡ status_text (status_in fault)
-refusal_text fault before after tells =
-    ap (λ (counts : Bool). (if counts then extension_text before after else []) ++ status_text (status_of_refusal (fault_in fault))) tells.counts
+pub refusal_text : (spaces : List Space) (fault : SiteFault) (before after : History) → TellsRefusal spaces fault → run_text spaces before after (Some (fault_in fault)) ≡ status_text (status_in fault)
+refusal_text spaces fault before after tells =
+    ap (λ (counts : Bool). (if counts then extension_text before after else []) ++ status_text (status_of_refusal spaces (fault_in fault))) tells.counts
     ∙ ap status_text tells.status
 
 -- where a script may run nothing is refused

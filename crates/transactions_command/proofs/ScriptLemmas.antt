@@ -7,7 +7,7 @@ use Rattle.log_history.specs.History.{History, LogEntry}
 use Rattle.log_files.specs.declared.room.LogFull.{LogFull as RoomFull}
 use Rattle.log_files.specs.declared.room.LogFull.TheVariants.{NotBackedUp, Needed, Positions}
 use Rattle.onbar_grammar.specs.declared.Why.{Why}
-use Rattle.onbar_grammar.specs.Script.{Raw, line_fault, raw_lines, spelled}
+use Rattle.onbar_grammar.specs.Script.{Raw, Space, line_fault, raw_lines, spelled}
 use Rattle.site_model.specs.Runs.{Taken, nothing, joined, bad, take_text}
 use Rattle.site_model.specs.Texts.{counts_text, extension_text, is_commit_entry, status_text}
 use Rattle.walks.specs.Courses.{only}
@@ -99,24 +99,24 @@ same_full (NotBackedUp file) = refl
 same_full (Needed file txn) = refl
 same_full (Positions end) = refl
 
-pub end_status : (ending : ScriptEnd) → status_of (end_fault ending) ≡ status_of_end ending
-end_status Done = refl
-end_status (LineFault line why) = refl
-end_status (Full why) = ap (λ (w : RoomFull). status_of_end (Full w)) (same_full why)
+pub end_status : (spaces : List Space) (ending : ScriptEnd) → status_of spaces (end_fault ending) ≡ status_of_end ending
+end_status spaces Done = refl
+end_status spaces (LineFault line why) = refl
+end_status spaces (Full why) = ap (λ (w : RoomFull). status_of_end (Full w)) (same_full why)
 
 end_counts : (ending : ScriptEnd) → tells_counts (end_fault ending) ≡ true
 end_counts Done = refl
 end_counts (LineFault line why) = refl
 end_counts (Full why) = refl
 
-module _ (before after added : History) (told : Extended) (history : after ≡ before ++ added) (lines : told.lines ≡ length added)
+module _ (spaces : List Space) (before after added : History) (told : Extended) (history : after ≡ before ++ added) (lines : told.lines ≡ length added)
     (commits : told.commits ≡ count_by is_commit_entry added) (end : told.end ≡ length after) where
   counts : extension_text before after ≡ counts_text told.lines told.commits told.end
   counts =
       ap (λ (a : History). counts_text (length a) (count_by is_commit_entry a) (length after)) (ap (λ (h : History). drop (length before) h) history ∙ drop_at before added (length before) refl)
       ∙ (λ i. counts_text (sym lines i) (sym commits i) (sym end i))
 
-  pub told_text : run_text before after (end_fault told.ending) ≡ counts_text told.lines told.commits told.end ++ status_text (status_of_end told.ending)
+  pub told_text : run_text spaces before after (end_fault told.ending) ≡ counts_text told.lines told.commits told.end ++ status_text (status_of_end told.ending)
   told_text =
-      ap (λ (c : Bool). (if c then extension_text before after else []) ++ status_text (status_of (end_fault told.ending))) (end_counts told.ending)
-      ∙ (λ i. counts i ++ status_text (end_status told.ending i))
+      ap (λ (c : Bool). (if c then extension_text before after else []) ++ status_text (status_of spaces (end_fault told.ending))) (end_counts told.ending)
+      ∙ (λ i. counts i ++ status_text (end_status spaces told.ending i))

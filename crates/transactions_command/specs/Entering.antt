@@ -18,7 +18,7 @@ use Rattle.site_openings.specs.Openings.{Check, no_restore}
 use Rattle.site_core.specs.declared.faults.SiteFault.{SiteFault}
 use Rattle.site_core.specs.declared.site.Site.{Site as Values}
 use Rattle.site_core.specs.Disks.{contents_of, images_of}
-use Rattle.site_core.specs.Faults.{IsFailure, fault_in}
+use Rattle.site_core.specs.Faults.{IsFailure, IsNamed, fault_in}
 use Rattle.site_core.specs.Layers.{layers}
 use Rattle.site_commands.specs.Commands.{AddsNone, uses}
 use Rattle.site_opening.specs.Opens.{FindsLog, log_checks, store_checks}
@@ -80,6 +80,7 @@ module _ {D : Type 0} (disk : Ghosts D) where
   -- it is refused as its course says, and the disks show it still
   pub record IsRefusedAt (era to : ℕ) (at : HeldSite) (old new : Values D) (fault : SiteFault) : Type 0 where
     pub refusal : if_refused at.site ≡ Some (fault_in fault)
+    pub named : IsNamed at.site.head.spaces fault
     pub still : IsKept disk old new ⊎ (StaysIn era to at old new × ShowsUsed at new)
 
   -- what comes of a site that is entered

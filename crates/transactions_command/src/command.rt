@@ -38,10 +38,10 @@ pub fn run_transactions<D: Disk, S: Source>(
     requires number { era.old.number ≤ 2 ^ 63 }
     requires moment { moment ≤ 2 ^ 48 }
 
-    // Either the form is refused for what the disks hold, or they hold what it needs; a record of the log may not be in the grammar any more
-    // when it is read again.
-    ensures refused { IsTrue D.is_modelled
-        → IfErr result (λ status. CutsShort status ⊎ (DisksRefuse transactions_form (contents_of D.Disk site.old) status ⊎ IsOfLog status)) }
+    // Either the form is refused for what the disks hold, or they hold what it needs; then a record of the log may not be in the grammar any
+    // more when it is read again.
+    ensures refused { IsTrue D.is_modelled → IfErr result (λ status. CutsShort status
+        ⊎ (DisksRefuse transactions_form (contents_of D.Disk site.old) status ⊎ (IsOfLog status × IsOpenFor transactions_form (contents_of D.Disk site.old)))) }
     ensures opens { IsTrue D.is_modelled → OnOk result (IsOpenFor transactions_form (contents_of D.Disk site.old)) }
     // At a refusal nothing was written; for a chunk, another one may have been put back in order before it.
     ensures kept { IfErr result (λ status. CutsShort status ⊎ ((IsOfChunk status ⊎ IsKept D.Disk site.old site.new) ⊎ IsOfLog status)) }

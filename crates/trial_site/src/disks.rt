@@ -1,136 +1,179 @@
-// The disks of a site in memory, whose headers are written by hand.
-ghost use Rattle.std.specs.Prelude.{◌≡◌};
+//! The disks of a site in memory, and how they fail.
+ghost use Rattle.std.specs.Prelude.{◌≡◌, ◌<◌, length, All, IfOk};
 ghost use Rattle.site_disk.specs.Ledger.{MayUse};
 ghost use Rattle.site_disk.specs.MemDisk.{disk_ledger};
-ghost use Rattle.onbar_command.specs.Disks.{MayUseAll};
+ghost use Rattle.site_core.specs.Disks.{MayUseAll};
+ghost use Rattle.site_core.specs.Made.{IsMadeSite};
 
-use onbar_command::{Site, SiteDisks};
-use site_disk::{Choice, Era, MemDisk, OutOfMemory};
-use site_headers::write_log_header;
+use crate::bytes::{Bytes, DISKS};
+use site_core::{Site, SiteDisks};
+use site_disk::{Choice, Disk, Era, MemDisk, OutOfMemory};
+use site_model::DiskName;
 use std::alloc::{AllocError, Global};
 
-/// The site's identifier.
-pub const SITE: u64 = 0x0102_0304_0506_0708;
-
-/// The moment at which commands run, in seconds from 1970.
+/// The moment at which commands run, in seconds from 1970; the identifier of a site that one of them formats.
 pub const MOMENT: u64 = 0x0102_0304;
 
-/// The catalogue's page of a site with 512 blocks a volume, and the space `A` of 4 pages.
-pub fn catalogue() -> [u8; 4096] {
-    let mut page = [0; 4096];
-    page[..16].copy_from_slice(b"\x01OBS\x01\x01\0\0\x01\x02\x03\x04\x05\x06\x07\x08");
-    page[16..28].copy_from_slice(b"\0\x01\0\0\0\0\0\0\0\0\x02\0");
-    page[32] = b'A';
-    page[55] = 4;
-    page
-}
+const VOLUMES: u16 = 17;
 
-/// The log of that site with no record: its header, and its gates.
-pub fn empty_log(alloc: Global) -> Result<Vec<u8>, AllocError> {
-    let mut page = [0; 4096];
-    write_log_header(SITE, &mut page);
-    let mut log = Vec::from_slice(alloc, &page)?;
-    log.resize(73_728, 0)?;
-    Ok(log)
-}
+const CHUNKS: u16 = 16;
 
-/// How the log's disk fails: at a call, or from a call on, whose write puts so many bytes. So may the catalogue's.
+/// How a disk fails: at one call, or from a call on, whose write puts so many bytes.
 #[derive(Clone, Copy, Debug)]
 pub enum Trouble {
-    Nothing,
     Fails(u64),
     Stops(u64, usize),
-    StopsCatalogue(u64, usize),
 }
 
-impl Trouble {
-    /// The calls of the log that fail alone.
-    pub(crate) fn failing(self, alloc: Global) -> Result<Vec<u64>, AllocError> {
-        match self {
-            Trouble::Fails(call) => Vec::from_slice(alloc, &[call]),
-            _ => Ok(Vec::new(alloc)),
-        }
-    }
-}
-
-/// The bytes of a catalogue and a log, and how their disks fail. With a seed they crash behind the command.
+/// The disks that fail. With a seed all crash behind the command.
 #[derive(Clone, Copy)]
-pub struct Disks<'a> {
-    pub cat: &'a [u8],
-    pub log: &'a [u8],
-    pub trouble: Trouble,
+pub struct Plan<'a> {
+    pub troubles: &'a [(DiskName, Trouble)],
     pub crash: Option<u64>,
 }
 
-impl<'a> Disks<'a> {
-    /// Disks that don't fail.
-    pub fn of(cat: &'a [u8], log: &'a [u8]) -> Disks<'a> {
-        Disks {
-            cat,
-            log,
-            trouble: Trouble::Nothing,
-            crash: None,
+impl Plan<'_> {
+    /// No disk fails.
+    pub const NONE: Plan<'static> = Plan {
+        troubles: &[],
+        crash: None,
+    };
+}
+
+fn befall(alloc: Global, trouble: Trouble, disk: &mut MemDisk) -> Result<(), AllocError>
+    ensures { disk_ledger disk.new ≡ disk_ledger disk.old }
+{
+    match trouble {
+        Trouble::Fails(call) => disk.fail_at(Vec::from_slice(alloc, &[call])?),
+        Trouble::Stops(call, bytes) => disk.stop_at(call, bytes),
+    }
+    Ok(())
+}
+
+// A disk of these bytes, with what the plan has for it.
+fn disk_of(
+    alloc: Global,
+    era: &Era,
+    bytes: &Bytes,
+    plan: &Plan<'_>,
+    name: DiskName,
+) -> Result<MemDisk, OutOfMemory>
+    ensures { IfOk result (λ disk. MayUse era.now (disk_ledger disk)) }
+{
+    let mut disk = MemDisk::new(alloc, era, Vec::from_slice(alloc, bytes.of(name))?);
+    for (at, trouble) in plan.troubles {
+        if *at == name {
+            befall(alloc, *trouble, &mut disk)?;
         }
     }
+    Ok(disk)
 }
 
-fn disk_of(alloc: Global, era: &Era, bytes: Vec<u8>) -> MemDisk
-    ensures { MayUse era.now (disk_ledger result) }
+fn volumes_of(
+    alloc: Global,
+    era: &Era,
+    bytes: &Bytes,
+    plan: &Plan<'_>,
+) -> Result<Vec<MemDisk>, OutOfMemory>
+    ensures may { IfOk result (λ disks. All (λ disk. MayUse era.now (disk_ledger disk)) disks.items) }
+    ensures count { IfOk result (λ disks. length disks.items ≡ 17) }
 {
-    MemDisk::new(alloc, era, bytes)
+    let mut disks = Vec::new(alloc);
+    for n in 0..VOLUMES {
+        disks.push(disk_of(alloc, era, bytes, plan, DiskName::Volume(n))?)?;
+    }
+    Ok(disks)
 }
 
-/// A site with this catalogue and this log, and nothing else. Takes no memory.
+fn chunks_of(
+    alloc: Global,
+    era: &Era,
+    bytes: &Bytes,
+    plan: &Plan<'_>,
+) -> Result<Vec<MemDisk>, OutOfMemory>
+    ensures may { IfOk result (λ disks. All (λ disk. MayUse era.now (disk_ledger disk)) disks.items) }
+    ensures count { IfOk result (λ disks. length disks.items ≡ 16) }
+{
+    let mut disks = Vec::new(alloc);
+    for n in 0..CHUNKS {
+        disks.push(disk_of(alloc, era, bytes, plan, DiskName::Chunk(n))?)?;
+    }
+    Ok(disks)
+}
+
+/// A site over disks of these bytes.
 pub(crate) fn site_of(
     alloc: Global,
     era: &Era,
-    cat: Vec<u8>,
-    log: Vec<u8>,
-    failing: Vec<u64>,
-    trouble: Trouble,
-) -> Site<MemDisk>
-    ensures { MayUseAll disk_ledger era.now result.disks }
+    bytes: &Bytes,
+    plan: &Plan<'_>,
+) -> Result<Site<MemDisk>, OutOfMemory>
+    ensures may { IfOk result (λ site. MayUseAll ⟦<MemDisk as Disk>⟧ era.now site) }
+    ensures made { IfOk result (λ site. IsMadeSite site) }
 {
-    let mut cat = disk_of(alloc, era, cat);
-    let mut log = disk_of(alloc, era, log);
-    log.fail_at(failing);
-    match trouble {
-        Trouble::Nothing | Trouble::Fails(_) => {}
-        Trouble::Stops(call, bytes) => log.stop_at(call, bytes),
-        Trouble::StopsCatalogue(call, bytes) => cat.stop_at(call, bytes),
+    let disks = SiteDisks {
+        cat: disk_of(alloc, era, bytes, plan, DiskName::Cat)?,
+        spare: disk_of(alloc, era, bytes, plan, DiskName::Spare)?,
+        boot: disk_of(alloc, era, bytes, plan, DiskName::Boot)?,
+        log: disk_of(alloc, era, bytes, plan, DiskName::Log)?,
+        volumes: volumes_of(alloc, era, bytes, plan)?,
+        chunks: chunks_of(alloc, era, bytes, plan)?,
+    };
+    Site::new(alloc, disks)
+}
+
+// The disks of a site in the order of their places.
+fn in_order(alloc: Global, disks: SiteDisks<MemDisk>) -> Result<Vec<MemDisk>, AllocError> {
+    let mut all = Vec::with_capacity(alloc, DISKS)?;
+    all.push(disks.cat)?;
+    all.push(disks.spare)?;
+    all.push(disks.boot)?;
+    all.push(disks.log)?;
+    for volume in disks.volumes {
+        all.push(volume)?;
     }
-    Site::new(SiteDisks {
-        cat,
-        spare: disk_of(alloc, era, Vec::new(alloc)),
-        boot: disk_of(alloc, era, Vec::new(alloc)),
-        log,
-        volumes: Vec::new(alloc),
-        chunks: Vec::new(alloc),
-    })
+    for chunk in disks.chunks {
+        all.push(chunk)?;
+    }
+    Ok(all)
 }
 
 fn bytes_of(alloc: Global, disk: &MemDisk) -> Result<Vec<u8>, OutOfMemory> {
     Ok(Vec::from_slice(alloc, disk.bytes())?)
 }
 
-fn crash_bytes(alloc: Global, disk: MemDisk, era: &Era, seed: u64) -> Result<Vec<u8>, OutOfMemory> {
-    let choice = Choice {
-        calls: u64::MAX,
-        seed,
-    };
-    let left = disk.crash(era, &choice)?;
-    bytes_of(alloc, &left)
-}
-
-/// The bytes that a disk has, or that a crash leaves of it.
-pub(crate) fn bytes_left(
+// The bytes that a disk has, or that a crash leaves of it.
+fn bytes_left(
     alloc: Global,
     disk: MemDisk,
     era: &Era,
     crash: Option<u64>,
 ) -> Result<Vec<u8>, OutOfMemory> {
     match crash {
-        Some(seed) => crash_bytes(alloc, disk, era, seed),
+        Some(seed) => {
+            let calls = u64::MAX;
+            bytes_of(alloc, &disk.crash(era, &Choice { calls, seed })?)
+        }
         None => bytes_of(alloc, &disk),
     }
+}
+
+/// What a command leaves: the bytes of its disks, and whether a call of one came, or failed by plan.
+pub(crate) fn leave(
+    alloc: Global,
+    site: Site<MemDisk>,
+    era: &Era,
+    crash: Option<u64>,
+) -> Result<(Bytes, bool), OutOfMemory> {
+    let mut all = Vec::with_capacity(alloc, DISKS)?;
+    let mut is_touched = false;
+    let mut place = 0;
+    for disk in in_order(alloc, site.into_disks(alloc)?)? {
+        is_touched |= disk.planned() > 0 || disk.bytes_read() > 0 || disk.bytes_written() > 0;
+        // Each disk has its own part of the choice.
+        let crash = crash.map(|seed| seed.wrapping_mul(64).wrapping_add(place));
+        all.push(bytes_left(alloc, disk, era, crash)?)?;
+        place = place.wrapping_add(1);
+    }
+    Ok((Bytes::in_order(all), is_touched))
 }

@@ -1,6 +1,7 @@
-// Commands one after another.
+//! Commands one after another.
+use crate::bytes::Bytes;
 use crate::commands::{Ended, command};
-use crate::disks::Disks;
+use crate::disks::Plan;
 use site_disk::OutOfMemory;
 use std::alloc::Global;
 use std::thread::Threads;
@@ -14,23 +15,42 @@ pub struct Step<'a> {
     pub status: &'a str,
 }
 
-/// Runs commands in order over disks that are blank at first, and answers those that they leave, or nothing where one of
-/// them ends otherwise.
+/// Runs commands in order, and answers the bytes that they leave, or nothing where one of them ends otherwise.
+pub fn go_on<R: Threads + Sync>(
+    rt: &R,
+    alloc: Global,
+    bytes: &Bytes,
+    steps: &[Step],
+) -> Result<Option<Bytes>, OutOfMemory> {
+    let mut last = bytes.copy(alloc)?;
+    for step in steps {
+        let script = step.script.as_bytes();
+        let ended = command(rt, alloc, step.words, &last, &Plan::NONE, script)?;
+        if !ended.is(step.text, step.status) {
+            return Ok(None);
+        }
+        last = ended.bytes;
+    }
+    Ok(Some(last))
+}
+
+/// The same over disks that are blank at first.
 pub fn run_steps<R: Threads + Sync>(
     rt: &R,
     alloc: Global,
     steps: &[Step],
-) -> Result<Option<Ended>, OutOfMemory> {
-    let mut last = command(rt, alloc, "", Disks::of(&[], &[]), b"")?;
-    for step in steps {
-        let disks = Disks::of(&last.cat, &last.log);
-        let ended = command(rt, alloc, step.words, disks, step.script.as_bytes())?;
-        if !ended.is(step.text, step.status) {
-            return Ok(None);
-        }
-        last = ended;
-    }
-    Ok(Some(last))
+) -> Result<Option<Bytes>, OutOfMemory> {
+    go_on(rt, alloc, &Bytes::blank(alloc), steps)
+}
+
+/// What a command leaves that formats a blank site.
+pub fn formatted<R: Threads + Sync>(
+    rt: &R,
+    alloc: Global,
+    words: &str,
+) -> Result<Bytes, OutOfMemory> {
+    let blank = Bytes::blank(alloc);
+    Ok(command(rt, alloc, words, &blank, &Plan::NONE, b"")?.bytes)
 }
 
 pub const INIT: Step<'static> = Step {

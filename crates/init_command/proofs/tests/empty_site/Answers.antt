@@ -1,4 +1,4 @@
-use Rattle.std.proofs.Common.{ℕ, List, All, inl, inr, sym, subst}
+use Rattle.std.proofs.Common.{◌≡◌, ℕ, List, All, None, inl, inr, sym, subst}
 use Rattle.std.proofs.lemmas.List.Elements.{All-get_or}
 use Rattle.std.proofs.lemmas.Option.{slice_get_cases}
 use Rattle.std.specs.Prelude.{Option, IfSome, slice_get}

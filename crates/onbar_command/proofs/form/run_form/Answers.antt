@@ -1,15 +1,14 @@
-use Rattle.std.proofs.Common.{◌≡◌, inl, true, refl, sym, subst, arith}
-use Rattle.onbar_grammar.specs.Words.{CommandForm}
+use Rattle.std.proofs.Common.{◌⊎◌, ◌≡◌, true, refl, sym, subst}
+use Rattle.onbar_grammar.specs.Words.{CommandForm, init_form, transactions_form, show_form}
 use Rattle.onbar_words.specs.Order.{form_in}
-use Rattle.site_headers.specs.Views.{spaces_of}
 use Rattle.onbar_words.specs.declared.words.Form.{Form}
-use Rattle.site_model.specs.Openings.{DisksRefuse}
 use Rattle.site_model.specs.Runs.{is_transactions}
-use Rattle.onbar_command.specs.Disks.{contents_of}
-use Rattle.script_runs.proofs.ExtendLemmas.{so_at_ok}
-use Rattle.site_model.specs.declared.disk_name.DiskName.TheVariants.{Cat, Log}
-use Rattle.onbar_command.proofs.FrameLemmas.{init_within, init_reads, same_may_change, at_ok}
-use Rattle.onbar_command.proofs.SiteLemmas.{may_moved}
+use Rattle.site_core.specs.Disks.{contents_of}
+use Rattle.site_openings.specs.Openings.{DisksRefuse}
+use Rattle.site_headers.specs.Views.{spaces_of}
+use Rattle.site_forms.specs.Starts.{IsKept, IsOfChunk}
+use Rattle.onbar_command.specs.Answers.{MayMeet, Meets}
+use Rattle.onbar_command.proofs.WordsLemmas.{early, late_kept, late_record, shown_kept, shown_record}
 use Rattle.onbar_command.proofs.form.run_form.Goals as goal
 
 -- what is said of a form, read at the case that it is
@@ -19,101 +18,83 @@ form_is P is said = subst (λ (f : Form). P (form_in f)) is said
 of_form : (P : CommandForm → Type 0) {form found : Form} → form ≡ found → P (form_in found) → P (form_in form)
 of_form P is said = subst (λ (f : Form). P (form_in f)) (sym is) said
 
-pub run_init-requires-clause-cat : goal.run_init-requires-clause-cat
-run_init-requires-clause-cat g c = c.requires.may Cat
+pub returns-in-Init-clause-refused : goal.returns-in-Init-clause-refused
+returns-in-Init-clause-refused g c tells =
+    let form = init_form c.in-Init.blocks (spaces_of c.in-Init.spaces.items) in
+    let contents = contents_of g.D.Disk c.args.site.now in
+    rw (c.in-Init.is) (early (λ status. DisksRefuse form contents status) (λ status. Meets form contents status) c.init_site.result (c.init_site.ensures.refused tells))
 
-pub run_init-requires-clause-log : goal.run_init-requires-clause-log
-run_init-requires-clause-log g c = c.requires.may Log
+pub returns-in-Transactions-clause-refused : goal.returns-in-Transactions-clause-refused
+returns-in-Transactions-clause-refused g c tells =
+    let contents = contents_of g.D.Disk c.args.site.now in
+    rw (c.in-Transactions.is) (late_record (λ status. DisksRefuse transactions_form contents status) contents c.run_transactions.result (c.run_transactions.ensures.refused tells))
 
-pub run_show-requires-clause-cat : goal.run_show-requires-clause-cat
-run_show-requires-clause-cat g c = c.requires.may Cat
+pub returns-in-Show-clause-refused : goal.returns-in-Show-clause-refused
+returns-in-Show-clause-refused g c tells =
+    let form = show_form c.in-Show.space c.in-Show.page in
+    let contents = contents_of g.D.Disk c.args.site.now in
+    rw (c.in-Show.is) (shown_record c.in-Show.space c.in-Show.page (λ status. DisksRefuse form contents status) contents c.show_space.result (c.show_space.ensures.refused tells))
 
-pub run_show-requires-clause-log : goal.run_show-requires-clause-log
-run_show-requires-clause-log g c = c.requires.may Log
+pub returns-in-Init-clause-kept : goal.returns-in-Init-clause-kept
+returns-in-Init-clause-kept g c =
+    early (λ status. IsOfChunk status ⊎ IsKept g.D.Disk c.args.site.now c.init_site.new.site) (λ status. MayMeet (form_in c.args.form) status)
+    c.init_site.result c.init_site.ensures.kept
 
-pub run_transactions-requires-clause-cat : goal.run_transactions-requires-clause-cat
-run_transactions-requires-clause-cat g c = c.requires.may Cat
+pub returns-in-Transactions-clause-kept : goal.returns-in-Transactions-clause-kept
+returns-in-Transactions-clause-kept g c =
+    rw (c.in-Transactions.is) (late_kept (λ status. IsOfChunk status ⊎ IsKept g.D.Disk c.args.site.now c.run_transactions.new.site) c.run_transactions.result c.run_transactions.ensures.kept)
 
-pub run_transactions-requires-clause-log : goal.run_transactions-requires-clause-log
-run_transactions-requires-clause-log g c = c.requires.may Log
-
-pub returns-in-Init-clause-may : goal.returns-in-Init-clause-may
-returns-in-Init-clause-may g c =
-    let call = c.run_init.ensures in
-    may_moved g.D.Disk.ledger c.args.era.now c.run_init.new.era call.key (omega (arith, call.era_later)) c.args.site.now.disks c.run_init.new.site.disks
-    call.others c.requires.may call.cat_may call.log_may
-
-pub returns-in-Transactions-clause-may : goal.returns-in-Transactions-clause-may
-returns-in-Transactions-clause-may g c =
-    let call = c.run_transactions.ensures in
-    may_moved g.D.Disk.ledger c.args.era.now c.run_transactions.new.era call.key (omega (arith, call.era_later)) c.args.site.now.disks c.run_transactions.new.site.disks
-    call.others c.requires.may call.cat_may call.log_may
-
-pub returns-in-Show-clause-may : goal.returns-in-Show-clause-may
-returns-in-Show-clause-may g c =
-    let call = c.run_show.ensures in
-    may_moved g.D.Disk.ledger c.args.era.now c.run_show.new.era call.key (omega (arith, call.era_later)) c.args.site.now.disks c.run_show.new.site.disks
-    call.others c.requires.may call.cat_may call.log_may
-
-pub returns-in-Init-clause-finishes : goal.returns-in-Init-clause-finishes
-returns-in-Init-clause-finishes g c tells_disk tells_source world opens stand =
-    let left = g.S.Source.left c.args.source.now in
-    rw (c.in-Init.is) (c.run_init.ensures.finishes tells_disk world opens stand left left)
-
-pub returns-in-Transactions-clause-finishes : goal.returns-in-Transactions-clause-finishes
-returns-in-Transactions-clause-finishes g c tells_disk known world opens stand =
-    let tells_source = known (of_form (λ f. is_transactions f ≡ true) c.in-Transactions.is refl) in
-    rw (c.in-Transactions.is) (c.run_transactions.ensures.finishes tells_disk tells_source world opens stand)
-
-pub returns-in-Show-clause-finishes : goal.returns-in-Show-clause-finishes
-returns-in-Show-clause-finishes g c tells_disk tells_source world opens stand =
-    let left = g.S.Source.left c.args.source.now in
-    rw (c.in-Show.is) (c.run_show.ensures.finishes tells_disk world opens stand c.args.moment left left)
+pub returns-in-Show-clause-kept : goal.returns-in-Show-clause-kept
+returns-in-Show-clause-kept g c =
+    rw (c.in-Show.is) (shown_kept c.in-Show.space c.in-Show.page (λ status. IsOfChunk status ⊎ IsKept g.D.Disk c.args.site.now c.show_space.new.site) c.show_space.result c.show_space.ensures.kept)
 
 pub returns-in-Init-clause-passes : goal.returns-in-Init-clause-passes
-returns-in-Init-clause-passes g c tells_disk known world opens stand =
-    rw (c.in-Init.is) (c.run_init.ensures.passes tells_disk world opens stand (g.S.Source.left c.args.source.now))
-
-pub returns-in-Show-clause-passes : goal.returns-in-Show-clause-passes
-returns-in-Show-clause-passes g c tells_disk known world opens stand = inl c.run_show.ensures.unwritten.images
+returns-in-Init-clause-passes g c tells_disk known = rw (c.in-Init.is) (c.init_site.ensures.passes tells_disk (g.S.Source.left c.args.source.now))
 
 pub returns-in-Transactions-clause-passes : goal.returns-in-Transactions-clause-passes
-returns-in-Transactions-clause-passes g c tells_disk known world opens stand =
+returns-in-Transactions-clause-passes g c tells_disk known =
     let tells_source = known (of_form (λ f. is_transactions f ≡ true) c.in-Transactions.is refl) in
-    rw (c.in-Transactions.is) (c.run_transactions.ensures.passes tells_disk tells_source world opens stand)
+    rw (c.in-Transactions.is) (c.run_transactions.ensures.passes tells_disk tells_source)
+
+pub returns-in-Show-clause-passes : goal.returns-in-Show-clause-passes
+returns-in-Show-clause-passes g c tells_disk known =
+    rw (c.in-Show.is) (c.show_space.ensures.passes tells_disk c.args.moment (g.S.Source.left c.args.source.now))
+
+pub returns-in-Init-clause-finishes : goal.returns-in-Init-clause-finishes
+returns-in-Init-clause-finishes g c tells_disk known =
+    let left = g.S.Source.left c.args.source.now in
+    rw (c.in-Init.is) (c.init_site.ensures.finishes tells_disk left left)
+
+pub returns-in-Transactions-clause-finishes : goal.returns-in-Transactions-clause-finishes
+returns-in-Transactions-clause-finishes g c tells_disk known =
+    let tells_source = known (of_form (λ f. is_transactions f ≡ true) c.in-Transactions.is refl) in
+    rw (c.in-Transactions.is) (c.run_transactions.ensures.finishes tells_disk tells_source)
+
+pub returns-in-Show-clause-finishes : goal.returns-in-Show-clause-finishes
+returns-in-Show-clause-finishes g c tells_disk known =
+    let left = g.S.Source.left c.args.source.now in
+    rw (c.in-Show.is) (c.show_space.ensures.finishes tells_disk c.args.moment left left)
+
+pub returns-in-Init-clause-rests : goal.returns-in-Init-clause-rests
+returns-in-Init-clause-rests g c tells_disk = rw (c.in-Init.is) (c.init_site.ensures.rests tells_disk)
+
+pub returns-in-Transactions-clause-rests : goal.returns-in-Transactions-clause-rests
+returns-in-Transactions-clause-rests g c tells_disk = rw (c.in-Transactions.is) (c.run_transactions.ensures.rests tells_disk)
+
+pub returns-in-Show-clause-rests : goal.returns-in-Show-clause-rests
+returns-in-Show-clause-rests g c tells_disk = rw (c.in-Show.is) (c.show_space.ensures.rests tells_disk)
 
 pub returns-in-Init-clause-harmless : goal.returns-in-Init-clause-harmless
 returns-in-Init-clause-harmless g c tells status is =
-    (c.run_init.ensures.harmless tells status (form_is (λ f. DisksRefuse f (contents_of g.D.Disk.bytes c.args.site.now.disks) status) c.in-Init.is is), refl)
+    (c.init_site.ensures.harmless tells status (form_is (λ f. DisksRefuse f (contents_of g.D.Disk c.args.site.now) status) c.in-Init.is is), refl)
 
 pub returns-in-Transactions-clause-harmless : goal.returns-in-Transactions-clause-harmless
 returns-in-Transactions-clause-harmless g c tells status is =
-    c.run_transactions.ensures.harmless tells status (form_is (λ f. DisksRefuse f (contents_of g.D.Disk.bytes c.args.site.now.disks) status) c.in-Transactions.is is)
+    c.run_transactions.ensures.harmless tells status (form_is (λ f. DisksRefuse f (contents_of g.D.Disk c.args.site.now) status) c.in-Transactions.is is)
 
 pub returns-in-Show-clause-harmless : goal.returns-in-Show-clause-harmless
-returns-in-Show-clause-harmless g c tells status is = (c.run_show.ensures.unwritten, refl)
+returns-in-Show-clause-harmless g c tells status is =
+    (c.show_space.ensures.harmless tells status (form_is (λ f. DisksRefuse f (contents_of g.D.Disk c.args.site.now) status) c.in-Show.is is), refl)
 
-pub returns-in-Init-clause-images_within : goal.returns-in-Init-clause-images_within
-returns-in-Init-clause-images_within g c tells_disk known world opens stand =
-    rw (c.in-Init.is) (init_within g.D.Disk.bytes g.D.Disk.image c.args.site.now.disks c.in-Init.blocks (spaces_of c.in-Init.spaces.items) c.run_init.new.site.disks c.run_init.ensures.others)
-
-pub returns-in-Transactions-clause-images_within : goal.returns-in-Transactions-clause-images_within
-returns-in-Transactions-clause-images_within g c tells_disk known world opens stand =
-    let tells_source = known (of_form (λ f. is_transactions f ≡ true) c.in-Transactions.is refl) in
-    rw (c.in-Transactions.is) (c.run_transactions.ensures.images_within tells_disk tells_source world opens stand)
-
-pub returns-in-Show-clause-images_within : goal.returns-in-Show-clause-images_within
-returns-in-Show-clause-images_within g c tells_disk known world opens stand f name image is = inl (c.run_show.ensures.unwritten.images f name image is)
-
-pub returns-in-Init-clause-reads_within : goal.returns-in-Init-clause-reads_within
-returns-in-Init-clause-reads_within g c tells_disk known world opens stand =
-    rw (c.in-Init.is) (so_at_ok c.run_init.result (init_reads g.D.Disk.bytes g.D.Disk.image c.args.site.now.disks c.in-Init.blocks (spaces_of c.in-Init.spaces.items) c.run_init.new.site.disks c.run_init.ensures.others))
-
-pub returns-in-Transactions-clause-reads_within : goal.returns-in-Transactions-clause-reads_within
-returns-in-Transactions-clause-reads_within g c tells_disk known world opens stand =
-    let tells_source = known (of_form (λ f. is_transactions f ≡ true) c.in-Transactions.is refl) in
-    rw (c.in-Transactions.is) (c.run_transactions.ensures.reads_within tells_disk tells_source world opens stand)
-
-pub returns-in-Show-clause-reads_within : goal.returns-in-Show-clause-reads_within
-returns-in-Show-clause-reads_within g c tells_disk known world opens stand =
-    at_ok c.run_show.result (λ same name. same_may_change (form_in c.args.form) name _ _ (same name)) c.run_show.ensures.reads
+pub returns-in-Show-clause-opens : goal.returns-in-Show-clause-opens
+returns-in-Show-clause-opens g c tells = rw (c.in-Show.is) (c.show_space.ensures.opens tells)

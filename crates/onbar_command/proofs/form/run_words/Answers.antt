@@ -1,110 +1,110 @@
-use Rattle.std.proofs.Common.{◌≡◌, ◌∙◌, ◌+◌, ℕ, inl, false, map, refl, sym, ap, subst}
-use Rattle.std.specs.Prelude.{string_bytes, OnOk, Result}
+use Rattle.std.proofs.Common.{◌≡◌, ◌+◌, inl, inr, Err, map, refl, subst}
+use Rattle.std.specs.Prelude.{string_bytes, OnOk}
 use Rattle.onbar_grammar.specs.Words.{Command, command_of}
-use Rattle.site_model.specs.declared.disk_name.DiskName.{DiskName}
-use Rattle.site_model.specs.OpeningLaws.{fit_opens, one_command}
-use Rattle.onbar_words.specs.Order.{command_in}
-use Rattle.site_model.specs.Commands.{used_by, ImagesWithin, IsPassed, MayChange, Passes, StandOn}
-use Rattle.onbar_command.specs.Disks.{contents_of, disk_of, images_of, start_of}
-use Rattle.site_model.specs.Runs.{reads_script, run, run_command}
-use Rattle.onbar_command.specs.Forms.{Finishes}
-use Rattle.onbar_command.proofs.FrameLemmas.{none_written}
-use Rattle.onbar_command.proofs.SiteLemmas.{promised_so, sound_so, sound_still, unused_same}
-use Rattle.onbar_command.proofs.WordsLemmas.{form_refused, known_so, makes_head, of_order, runs_fit, words_refused}
+use Rattle.onbar_words.specs.Order.{command_in, Refuses}
+use Rattle.onbar_words.specs.declared.words.WordFault.{WordFault}
+use Rattle.site_core.specs.Disks.{contents_of}
+use Rattle.site_forms.specs.Starts.{IsKept, WritesWithin}
+use Rattle.onbar_command.specs.Commands.{ComesTo, PassesFor, RestsFor, ShownFor}
+use Rattle.onbar_command.proofs.SoundLemmas.{promised_so, sound_so, sound_still}
+use Rattle.onbar_command.proofs.WordsLemmas.{form_refused, known_so, makes_head, of_order, one_command, over_so, runs_fit, still, usage_over, words_kept, words_refused}
 use Rattle.onbar_command.proofs.form.run_words.Goals as goal
 
 pub returns-in-Ok-clause-refused : goal.returns-in-Ok-clause-refused
 returns-in-Ok-clause-refused g c tells =
-    let call = c.run_form.ensures in
-    words_refused (map string_bytes c.args.words.now) (command_in c.in-Ok.order) c.in-Ok.ensures.order
-    (contents_of g.D.Disk.bytes c.args.site.now.disks) c.run_form.result (call.refused tells)
+    words_refused (map string_bytes c.args.words.now) (command_in c.in-Ok.order) c.in-Ok.ensures.order (contents_of g.D.Disk c.args.site.now) c.run_form.result (c.run_form.ensures.refused tells)
+
+pub returns-in-Ok-clause-kept : goal.returns-in-Ok-clause-kept
+returns-in-Ok-clause-kept g c = words_kept (map string_bytes c.args.words.now) (command_in c.in-Ok.order) c.in-Ok.ensures.order
+    (IsKept g.D.Disk c.args.site.now c.run_form.new.site) c.run_form.result c.run_form.ensures.kept
+
+pub returns-in-Ok-clause-harmless : goal.returns-in-Ok-clause-harmless
+returns-in-Ok-clause-harmless g c tells status is =
+    c.run_form.ensures.harmless tells status
+    (form_refused (map string_bytes c.args.words.now) (command_in c.in-Ok.order) c.in-Ok.ensures.order (contents_of g.D.Disk c.args.site.now) status is)
+
+pub returns-in-Err-At-clause-harmless : goal.returns-in-Err-At-clause-harmless
+returns-in-Err-At-clause-harmless g c tells status is = (inr (still g.D.Disk c.args.site.now), refl)
+
+pub returns-in-Err-OutOfMemory-clause-harmless : goal.returns-in-Err-OutOfMemory-clause-harmless
+returns-in-Err-OutOfMemory-clause-harmless g c tells status is = (inr (still g.D.Disk c.args.site.now), refl)
 
 pub returns-in-Ok-clause-passes : goal.returns-in-Ok-clause-passes
-returns-in-Ok-clause-passes g c tells_disk known world opens stand =
+returns-in-Ok-clause-passes g c tells_disk known =
     let left = g.S.Source.left c.args.source.now in
-    of_order (map string_bytes c.args.words.now) (command_in c.in-Ok.order) c.in-Ok.ensures.order (λ r. StandOn (used_by r) (contents_of g.D.Disk.bytes c.args.site.now.disks) world → Passes (start_of g.D.Disk.bytes g.D.Disk.image c.args.era.now.number (used_by r) c.args.site.now.disks) (images_of g.D.Disk.image c.run_form.new.site.disks) world (IsPassed world (run_command c.args.moment world left r)))
-    (c.run_form.ensures.passes tells_disk (known_so (map string_bytes c.args.words.now) (command_in c.in-Ok.order) c.in-Ok.ensures.order known) world opens) stand
+    of_order (map string_bytes c.args.words.now) (command_in c.in-Ok.order) c.in-Ok.ensures.order
+    (λ r. PassesFor g.D.Disk r c.args.era.now.number c.args.site.now c.run_form.new.site c.args.moment left)
+    (c.run_form.ensures.passes tells_disk (known_so (map string_bytes c.args.words.now) (command_in c.in-Ok.order) c.in-Ok.ensures.order known))
 
 pub returns-in-Err-At-clause-passes : goal.returns-in-Err-At-clause-passes
-returns-in-Err-At-clause-passes g c tells_disk known world opens stand = inl (λ f name bytes is. is)
+returns-in-Err-At-clause-passes g c tells_disk known at shown = inl (λ f name bytes is. is)
 
 pub returns-in-Err-OutOfMemory-clause-passes : goal.returns-in-Err-OutOfMemory-clause-passes
-returns-in-Err-OutOfMemory-clause-passes g c tells_disk known world opens stand = inl (λ f name bytes is. is)
+returns-in-Err-OutOfMemory-clause-passes g c tells_disk known at shown = inl (λ f name bytes is. is)
+
+pub returns-in-Ok-clause-rests : goal.returns-in-Ok-clause-rests
+returns-in-Ok-clause-rests g c tells_disk =
+    of_order (map string_bytes c.args.words.now) (command_in c.in-Ok.order) c.in-Ok.ensures.order
+    (λ r. RestsFor g.D.Disk r c.args.era.now.number c.args.site.now c.run_form.new.site) (c.run_form.ensures.rests tells_disk)
+
+pub returns-in-Err-At-clause-rests : goal.returns-in-Err-At-clause-rests
+returns-in-Err-At-clause-rests g c tells_disk at shown f name bytes isnt is = is
+
+pub returns-in-Err-OutOfMemory-clause-rests : goal.returns-in-Err-OutOfMemory-clause-rests
+returns-in-Err-OutOfMemory-clause-rests g c tells_disk at shown f name bytes isnt is = is
+
+pub returns-in-Ok-clause-finishes : goal.returns-in-Ok-clause-finishes
+returns-in-Ok-clause-finishes g c tells_disk known at shown =
+    let left = g.S.Source.left c.args.source.now in
+    let words = map string_bytes c.args.words.now in
+    of_order words (command_in c.in-Ok.order) c.in-Ok.ensures.order
+    (λ r. ShownFor g.D.Disk r c.args.site.now at
+    → ComesTo g.D.Disk r c.args.era.now.number c.args.site.now c.run_form.new.site c.args.moment left at (c.run_form.new.era.number + 1) c.run_form.result (g.S.Source.left c.run_form.new.source))
+    (λ stand. over_so g.D.Disk (command_in c.in-Ok.order) c.args.era.now.number c.args.site.now c.run_form.new.site c.args.moment left at (c.run_form.new.era.number + 1) c.run_form.result
+    (g.S.Source.left c.run_form.new.source) (c.run_form.ensures.finishes tells_disk (known_so words (command_in c.in-Ok.order) c.in-Ok.ensures.order known) at stand))
+    shown
+
+pub returns-in-Err-At-clause-finishes : goal.returns-in-Err-At-clause-finishes
+returns-in-Err-At-clause-finishes g c tells_disk known at shown =
+    let left = g.S.Source.left c.args.source.now in
+    let words = map string_bytes c.args.words.now in
+    let refused : command_of words ≡ Err c.in-Err-At.word = subst (λ (f : WordFault). Refuses words f) c.in-Err-At.field-0-is c.in-Err-At.ensures.refused in
+    rw (c.in-Err-At.word-is) (inr (usage_over g.D.Disk (command_of words) c.in-Err-At.word refused c.args.era.now.number c.args.site.now c.args.moment left left at (c.args.era.now.number + 1)))
+
+pub returns-in-Err-OutOfMemory-clause-finishes : goal.returns-in-Err-OutOfMemory-clause-finishes
+returns-in-Err-OutOfMemory-clause-finishes g c tells_disk known at shown = inl tt
 
 pub returns-in-Ok-clause-promised : goal.returns-in-Ok-clause-promised
 returns-in-Ok-clause-promised g c tells_disk known sound =
-    let left = g.S.Source.left c.args.source.now in
-    promised_so g.D.Disk.bytes g.D.Disk.image g.D.Disk.ledger c.args.era.now (λ disk f le. g.met.D.Disk.reads_as disk f tells_disk le) g.met.D.Disk.now_counts (command_of (map string_bytes c.args.words.now)) c.args.site.now.disks c.run_form.new.site.disks (λ world. run (map string_bytes c.args.words.now) c.args.moment world left) c.requires.may
-    (of_order (map string_bytes c.args.words.now) (command_in c.in-Ok.order) c.in-Ok.ensures.order (λ r. (name : DiskName) → used_by r name ≡ false → disk_of c.run_form.new.site.disks name ≡ disk_of c.args.site.now.disks name)
-    (unused_same (command_in c.in-Ok.order).form c.args.site.now.disks c.run_form.new.site.disks c.run_form.ensures.others))
-    (λ world fit stand. returns-in-Ok-clause-passes g c tells_disk known world (fit_opens world fit) stand) sound
+    promised_so g.D.Disk c.args.era.now (λ disk f le. g.met.D.Disk.reads_as disk f tells_disk le) g.met.D.Disk.now_counts (command_of (map string_bytes c.args.words.now)) c.args.site.now c.run_form.new.site
+    c.args.moment (g.S.Source.left c.args.source.now) c.requires.may (returns-in-Ok-clause-rests g c tells_disk) (returns-in-Ok-clause-passes g c tells_disk known) sound
 
 pub returns-in-Err-At-clause-promised : goal.returns-in-Err-At-clause-promised
 returns-in-Err-At-clause-promised g c tells_disk known sound =
-    promised_so g.D.Disk.bytes g.D.Disk.image g.D.Disk.ledger c.args.era.now (λ disk f le. g.met.D.Disk.reads_as disk f tells_disk le) g.met.D.Disk.now_counts (command_of (map string_bytes c.args.words.now)) c.args.site.now.disks c.args.site.now.disks (λ world. run (map string_bytes c.args.words.now) c.args.moment world (g.S.Source.left c.args.source.now)) c.requires.may
-    (λ name isnt. refl) (λ world fit stand. inl (λ f name bytes is. is)) sound
+    promised_so g.D.Disk c.args.era.now (λ disk f le. g.met.D.Disk.reads_as disk f tells_disk le) g.met.D.Disk.now_counts (command_of (map string_bytes c.args.words.now)) c.args.site.now c.args.site.now
+    c.args.moment (g.S.Source.left c.args.source.now) c.requires.may (λ at shown f name bytes isnt is. is) (λ at shown. inl (λ f name bytes is. is)) sound
 
 pub returns-in-Err-OutOfMemory-clause-promised : goal.returns-in-Err-OutOfMemory-clause-promised
 returns-in-Err-OutOfMemory-clause-promised g c tells_disk known sound =
-    promised_so g.D.Disk.bytes g.D.Disk.image g.D.Disk.ledger c.args.era.now (λ disk f le. g.met.D.Disk.reads_as disk f tells_disk le) g.met.D.Disk.now_counts (command_of (map string_bytes c.args.words.now)) c.args.site.now.disks c.args.site.now.disks (λ world. run (map string_bytes c.args.words.now) c.args.moment world (g.S.Source.left c.args.source.now)) c.requires.may
-    (λ name isnt. refl) (λ world fit stand. inl (λ f name bytes is. is)) sound
+    promised_so g.D.Disk c.args.era.now (λ disk f le. g.met.D.Disk.reads_as disk f tells_disk le) g.met.D.Disk.now_counts (command_of (map string_bytes c.args.words.now)) c.args.site.now c.args.site.now
+    c.args.moment (g.S.Source.left c.args.source.now) c.requires.may (λ at shown f name bytes isnt is. is) (λ at shown. inl (λ f name bytes is. is)) sound
 
 pub returns-in-Ok-clause-sound : goal.returns-in-Ok-clause-sound
 returns-in-Ok-clause-sound g c tells_disk known sound =
     let left = g.S.Source.left c.args.source.now in
-    sound_so g.D.Disk.bytes g.D.Disk.image g.D.Disk.ledger c.args.era.now (λ disk f le. g.met.D.Disk.reads_as disk f tells_disk le) g.met.D.Disk.now_counts (command_of (map string_bytes c.args.words.now)) c.args.site.now.disks c.run_form.new.site.disks (λ world. run (map string_bytes c.args.words.now) c.args.moment world left) c.requires.may
-    (of_order (map string_bytes c.args.words.now) (command_in c.in-Ok.order) c.in-Ok.ensures.order (λ r. (name : DiskName) → used_by r name ≡ false → disk_of c.run_form.new.site.disks name ≡ disk_of c.args.site.now.disks name)
-    (unused_same (command_in c.in-Ok.order).form c.args.site.now.disks c.run_form.new.site.disks c.run_form.ensures.others))
-    (λ world fit stand. returns-in-Ok-clause-passes g c tells_disk known world (fit_opens world fit) stand) sound
+    sound_so g.D.Disk c.args.era.now (λ disk f le. g.met.D.Disk.reads_as disk f tells_disk le) g.met.D.Disk.now_counts (command_of (map string_bytes c.args.words.now)) c.args.site.now c.run_form.new.site
+    c.args.moment left c.requires.may (returns-in-Ok-clause-rests g c tells_disk) (returns-in-Ok-clause-passes g c tells_disk known) sound
     (runs_fit (map string_bytes c.args.words.now) (command_in c.in-Ok.order) c.in-Ok.ensures.order c.args.moment left (makes_head c.in-Ok.order.form c.args.moment c.requires.moment c.in-Ok.ensures.fits))
 
 pub returns-in-Err-At-clause-sound : goal.returns-in-Err-At-clause-sound
-returns-in-Err-At-clause-sound g c tells_disk known sound = sound_still g.D.Disk.bytes g.D.Disk.image g.D.Disk.ledger c.args.era.now (λ disk f le. g.met.D.Disk.reads_as disk f tells_disk le) g.met.D.Disk.now_counts c.args.site.now.disks c.requires.may sound
+returns-in-Err-At-clause-sound g c tells_disk known sound =
+    sound_still g.D.Disk c.args.era.now (λ disk f le. g.met.D.Disk.reads_as disk f tells_disk le) g.met.D.Disk.now_counts c.args.site.now c.requires.may sound
 
 pub returns-in-Err-OutOfMemory-clause-sound : goal.returns-in-Err-OutOfMemory-clause-sound
-returns-in-Err-OutOfMemory-clause-sound g c tells_disk known sound = sound_still g.D.Disk.bytes g.D.Disk.image g.D.Disk.ledger c.args.era.now (λ disk f le. g.met.D.Disk.reads_as disk f tells_disk le) g.met.D.Disk.now_counts c.args.site.now.disks c.requires.may sound
+returns-in-Err-OutOfMemory-clause-sound g c tells_disk known sound =
+    sound_still g.D.Disk c.args.era.now (λ disk f le. g.met.D.Disk.reads_as disk f tells_disk le) g.met.D.Disk.now_counts c.args.site.now c.requires.may sound
 
-pub returns-in-Ok-clause-finishes : goal.returns-in-Ok-clause-finishes
-returns-in-Ok-clause-finishes g c tells_disk known world opens stand =
-    let left = g.S.Source.left c.args.source.now in
-    of_order (map string_bytes c.args.words.now) (command_in c.in-Ok.order) c.in-Ok.ensures.order (λ r. StandOn (used_by r) (contents_of g.D.Disk.bytes c.args.site.now.disks) world
-    → Finishes (reads_script r) (start_of g.D.Disk.bytes g.D.Disk.image c.args.era.now.number (used_by r) c.args.site.now.disks) world (run_command c.args.moment world left r) (g.S.Source.left c.run_form.new.source)
-    (contents_of g.D.Disk.bytes c.run_form.new.site.disks) (c.run_form.new.era.number + 1) (images_of g.D.Disk.image c.run_form.new.site.disks) c.run_form.result)
-    (c.run_form.ensures.finishes tells_disk (known_so (map string_bytes c.args.words.now) (command_in c.in-Ok.order) c.in-Ok.ensures.order known) world opens) stand
-
-pub returns-in-Ok-clause-log_written : goal.returns-in-Ok-clause-log_written
-returns-in-Ok-clause-log_written g c tells_disk tells_source reads world opens stand =
-    c.run_form.ensures.log_written tells_disk tells_source (sym (ap reads_script c.in-Ok.ensures.order) ∙ reads) world opens
-    (subst (λ (r : Result Command ℕ). StandOn (used_by r) (contents_of g.D.Disk.bytes c.args.site.now.disks) world) c.in-Ok.ensures.order stand)
-
-pub returns-in-Ok-clause-harmless : goal.returns-in-Ok-clause-harmless
-returns-in-Ok-clause-harmless g c tells status is =
-    c.run_form.ensures.harmless tells status (form_refused (map string_bytes c.args.words.now) (command_in c.in-Ok.order) c.in-Ok.ensures.order (contents_of g.D.Disk.bytes c.args.site.now.disks) status is)
-
-pub returns-in-Err-At-clause-harmless : goal.returns-in-Err-At-clause-harmless
-returns-in-Err-At-clause-harmless g c tells status is = (none_written g.D.Disk.image g.D.Disk.ledger c.args.site.now.disks, refl)
-
-pub returns-in-Err-OutOfMemory-clause-harmless : goal.returns-in-Err-OutOfMemory-clause-harmless
-returns-in-Err-OutOfMemory-clause-harmless g c tells status is = (none_written g.D.Disk.image g.D.Disk.ledger c.args.site.now.disks, refl)
-
-pub returns-in-Ok-clause-images_within : goal.returns-in-Ok-clause-images_within
-returns-in-Ok-clause-images_within g c tells_disk known world opens stand command is =
-    let words = map string_bytes c.args.words.now in
-    subst (λ (k : Command). ImagesWithin k.form (contents_of g.D.Disk.bytes c.args.site.now.disks) (images_of g.D.Disk.image c.args.site.now.disks) (images_of g.D.Disk.image c.run_form.new.site.disks))
-    (one_command words (command_in c.in-Ok.order) command c.in-Ok.ensures.order is)
-    (c.run_form.ensures.images_within tells_disk (known_so words (command_in c.in-Ok.order) c.in-Ok.ensures.order known) world opens
-    (subst (λ (r : Result Command ℕ). StandOn (used_by r) (contents_of g.D.Disk.bytes c.args.site.now.disks) world) c.in-Ok.ensures.order stand))
-
-pub returns-in-Err-At-clause-images_within : goal.returns-in-Err-At-clause-images_within
-returns-in-Err-At-clause-images_within g c tells_disk known world opens stand command is f name image has = inl has
-
-pub returns-in-Err-OutOfMemory-clause-images_within : goal.returns-in-Err-OutOfMemory-clause-images_within
-returns-in-Err-OutOfMemory-clause-images_within g c tells_disk known world opens stand command is f name image has = inl has
-
-pub returns-in-Ok-clause-reads_within : goal.returns-in-Ok-clause-reads_within
-returns-in-Ok-clause-reads_within g c tells_disk known world opens stand command is =
-    let words = map string_bytes c.args.words.now in
-    subst (λ (k : Command). OnOk c.run_form.result ((name : DiskName) → MayChange k.form name (contents_of g.D.Disk.bytes c.args.site.now.disks name) (contents_of g.D.Disk.bytes c.run_form.new.site.disks name)))
-    (one_command words (command_in c.in-Ok.order) command c.in-Ok.ensures.order is)
-    (c.run_form.ensures.reads_within tells_disk (known_so words (command_in c.in-Ok.order) c.in-Ok.ensures.order known) world opens
-    (subst (λ (r : Result Command ℕ). StandOn (used_by r) (contents_of g.D.Disk.bytes c.args.site.now.disks) world) c.in-Ok.ensures.order stand))
+pub returns-in-Ok-clause-written : goal.returns-in-Ok-clause-written
+returns-in-Ok-clause-written g c command is =
+    subst (λ (k : Command). OnOk c.run_form.result (WritesWithin g.D.Disk k.form c.args.site.now c.run_form.new.site))
+    (one_command (map string_bytes c.args.words.now) (command_in c.in-Ok.order) c.in-Ok.ensures.order command is) c.run_form.ensures.written

@@ -6,8 +6,8 @@ use Rattle.site_core.specs.Faults.{status_in}
 use Rattle.site_lane_opening.specs.Steps.{ToRefused, era_behind}
 use Rattle.site_lane_opening.proofs.BytesLemmas.{not_refused, opens_allow, refused_once, site_refuses}
 use Rattle.site_lane_opening.proofs.DiskLemmas.{both_ways, later_behind, made_behind, may_behind}
-use Rattle.site_lane_opening.proofs.EndLemmas.{Came, failed_by, head_is, kept_by, opened_one, space_within, wanted_one}
-use Rattle.site_lane_opening.proofs.WorldLemmas.{leaves_by, one_by, stop_refuses}
+use Rattle.site_lane_opening.proofs.EndLemmas.{Came, counted_one, failed_by, head_is, kept_by, opened_one, space_within, wanted_one}
+use Rattle.site_lane_opening.proofs.WorldLemmas.{leaves_by, left_by, one_by, stop_refuses}
 use Rattle.site_lane_opening.proofs.one.open_site_lane.Goals as goal
 
 pub returns-clause-stands : goal.returns-clause-stands
@@ -20,6 +20,13 @@ returns-clause-stands g c tells at stands same show =
 pub returns-clause-leaves : goal.returns-clause-leaves
 returns-clause-leaves g c tells at stands same show =
     leaves_by g.D.Disk (λ d f k b le lt image. g.met.D.Disk.now_counts d f k b le lt image) c.args.era.now tells (Some c.args.space) at c.args.site.now c.try_one.new.site c.try_one.ensures.others c.requires.made c.requires.may
+    (head_is c.args.site.now (Some c.args.space) (head_of c.args.head.now) at.site.head same (wanted_one c.args.site.now c.args.head.now c.args.space c.requires.made c.requires.head c.requires.space))
+    (space_within c.args.head.now c.args.space at.site.head same c.requires.space) stands show (ToRefused g.D.Disk (era_behind c.args.era.now)) c.try_one.new.era.number c.try_one.result
+    (subst (λ (h : Head). Came g.D.Disk (Some c.args.space) h c.args.era.now (ToRefused g.D.Disk (era_behind c.args.era.now)) c.try_one.new.era c.args.site.now c.try_one.new.site c.try_one.result) same c.try_one.ensures.came)
+
+pub returns-clause-left : goal.returns-clause-left
+returns-clause-left g c tells at stands same show =
+    left_by g.D.Disk (λ d f k b le lt image. g.met.D.Disk.now_counts d f k b le lt image) c.args.era.now tells (Some c.args.space) at c.args.site.now c.try_one.new.site c.try_one.ensures.others c.requires.made c.requires.may
     (head_is c.args.site.now (Some c.args.space) (head_of c.args.head.now) at.site.head same (wanted_one c.args.site.now c.args.head.now c.args.space c.requires.made c.requires.head c.requires.space))
     (space_within c.args.head.now c.args.space at.site.head same c.requires.space) stands show (ToRefused g.D.Disk (era_behind c.args.era.now)) c.try_one.new.era.number c.try_one.result
     (subst (λ (h : Head). Came g.D.Disk (Some c.args.space) h c.args.era.now (ToRefused g.D.Disk (era_behind c.args.era.now)) c.try_one.new.era c.args.site.now c.try_one.new.site c.try_one.result) same c.try_one.ensures.came)
@@ -58,6 +65,13 @@ pub returns-clause-opened : goal.returns-clause-opened
 returns-clause-opened g c =
     both_ways c.try_one.result
     (λ a opens. opened_one g.D.Disk (Some c.args.space) (head_of c.args.head.now) c.args.era.now (ToRefused g.D.Disk (era_behind c.args.era.now)) c.try_one.new.era c.args.site.now c.try_one.new.site c.requires.made
+    (wanted_one c.args.site.now c.args.head.now c.args.space c.requires.made c.requires.head c.requires.space) opens c.args.space refl)
+    (λ fault stops. tt) c.try_one.ensures.came
+
+pub returns-clause-counted : goal.returns-clause-counted
+returns-clause-counted g c =
+    both_ways c.try_one.result
+    (λ a opens. counted_one g.D.Disk (Some c.args.space) (head_of c.args.head.now) c.args.era.now (ToRefused g.D.Disk (era_behind c.args.era.now)) c.try_one.new.era c.args.site.now c.try_one.new.site c.requires.made
     (wanted_one c.args.site.now c.args.head.now c.args.space c.requires.made c.requires.head c.requires.space) opens c.args.space refl)
     (λ fault stops. tt) c.try_one.ensures.came
 

@@ -37,7 +37,7 @@ returns-in_err-begun-clause-rests g c tells =
 pub returns-in_err-told-clause-refused : goal.returns-in_err-told-clause-refused
 returns-in_err-told-clause-refused g c tells =
     let p = err_from_is_err_and c.from_residual-in_err-told.result c.from_residual-in_err-told.ensures.1 in
-    rw (p.1, p.2) (⊎_elim (λ cut. inl cut) (λ of. inr (inr of)) (cut_kind c.in_err-told.field-0.0))
+    rw (p.1, p.2) (⊎_elim (λ cut. inl cut) (λ of. inr (inr (of, c.in_ok-begun.ensures.answers tells))) (cut_kind c.in_err-told.field-0.0))
 
 pub returns-in_err-told-clause-harmless : goal.returns-in_err-told-clause-harmless
 returns-in_err-told-clause-harmless g c tells status refused = absurd (false≢true (c.in_ok-begun.ensures.harmless tells status refused).0)

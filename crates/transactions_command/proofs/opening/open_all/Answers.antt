@@ -3,6 +3,7 @@ use Rattle.std.proofs.Common.{◌≡◌, ◌+◌, [], ◌∷◌, ◌++◌, ℕ, 
 use Rattle.std.proofs.lemmas.Result.{err_from_is_err_and}
 use Rattle.std.specs.Prelude.{Option}
 use Rattle.std.specs.Option.{option_or}
+use Rattle.site_headers.specs.Heads.{Head}
 use Rattle.site_headers.specs.Views.{head_of}
 use Rattle.site_courses.specs.Courses.{if_any_lost}
 use Rattle.site_courses.specs.Faults.{Fault}
@@ -11,11 +12,13 @@ use Rattle.site_openings.specs.Openings.{AllowedBy, Contents_of, Named, RefusedB
 use Rattle.site_core.specs.Disks.{contents_of}
 use Rattle.site_core.specs.Faults.{status_in}
 use Rattle.site_core.specs.Layers.{layers}
-use Rattle.site_lane_opening.specs.Left.{LanesLeft}
+use Rattle.site_lane_opening.specs.Left.{IsLanesFault, LanesLeft}
+use Rattle.site_lane_opening.proofs.EndLemmas.{lanes_named}
 use Rattle.transactions_command.specs.Entering.{site_checks}
 use Rattle.site_openings.proofs.CheckLemmas.{allowed_both, never_both, refused_behind, refused_front}
 use Rattle.transactions_command.proofs.CheckLemmas.{lanes_of_chunk, ready_none, refused_split, same_contents}
 use Rattle.transactions_command.proofs.EnterLemmas.{enters_refused, shown_lanes, shown_to_log, shows_again, stays_in}
+use Rattle.transactions_command.proofs.RefusalLemmas.{unready_named}
 use Rattle.transactions_command.proofs.opening.open_all.Goals as goal
 
 pub returns-in_err-begun-clause-enters : goal.returns-in_err-begun-clause-enters
@@ -26,6 +29,7 @@ returns-in_err-begun-clause-enters g c tells at fit shown =
       inl call.quiet.images,
       ⊎_elim (λ failed. inl failed) (λ same. ⊎_elim (λ failed. inl failed) (λ is. inr (record {
         refusal = ap (λ (o : Option Fault). option_or o (if_any_lost at.site)) is;
+        named = unready_named at.site c.in_err-begun.field-0.0 is;
         still = inl (call.quiet, same);
       })) (call.finds tells at fit (shown_to_log g.D.Disk at c.args.site.now shown))) call.kept,
     )
@@ -52,7 +56,7 @@ returns-in_err-open_site_lanes-clause-enters g c tells at fit shown =
     (ready_none at.site begun.none begun.found.has)
     (⊎_elim (λ adds. inl adds) (λ left. inr (subst (λ (n : ℕ). LanesLeft g.D.Disk None n at c.open_log.new.site c.open_site_lanes.new.site) era left)) (call.leaves tells at stands begun.head_is lanes))
     (⊎_elim (λ failed. inl failed) (λ left. inr (subst (λ (n : ℕ). LanesLeft g.D.Disk None n at c.open_log.new.site c.open_site_lanes.new.site) era left)) (call.left tells at stands begun.head_is lanes))
-    (call.stands tells at stands begun.head_is lanes))
+    (call.stands tells at stands begun.head_is lanes) (lanes_named None at.site.head _ (subst (λ (h : Head). IsLanesFault None h c.in_err-open_site_lanes.field-0.0) begun.head_is call.only)))
 
 pub returns-in_err-open_site_lanes-clause-answers : goal.returns-in_err-open_site_lanes-clause-answers
 returns-in_err-open_site_lanes-clause-answers g c tells =

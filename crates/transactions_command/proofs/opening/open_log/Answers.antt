@@ -1,4 +1,4 @@
-use Rattle.std.proofs.Common.{◌≡◌, ◌∙◌, ◌+◌, List, ◌∷◌, ℕ, None, inl, inr, ⊎_elim, refl, sym, ap, subst, arith}
+use Rattle.std.proofs.Common.{◌≡◌, ◌∙◌, ◌+◌, List, ◌∷◌, ℕ, None, inl, inr, ⊎_elim, sym, ap, subst, arith}
 use Rattle.std.proofs.lemmas.Result.{err_from_is_err_and}
 use Rattle.course_laws.specs.AppendingLaws.{active_none}
 use Rattle.site_headers.specs.Views.{head_of}
@@ -6,7 +6,10 @@ use Rattle.site_model.specs.declared.disk_name.DiskName.TheVariants.{Log}
 use Rattle.site_courses.specs.Courses.{if_active, if_log_lost}
 use Rattle.site_courses.specs.Faults.{Fault}
 use Rattle.site_layouts.specs.Stages.{ShowsHeld}
-use Rattle.std.specs.Prelude.{Option}
+use Rattle.std.specs.Prelude.{Option, Err}
+use Rattle.site_core.specs.declared.faults.SiteFault.{SiteFault}
+use Rattle.site_core.specs.declared.faults.SiteFault.TheVariants.{DiskFault}
+use Rattle.site_core.proofs.FaultLemmas.{same_fault}
 use Rattle.std.specs.Option.{option_or}
 use Rattle.boot_file.specs.Boots.{restore_in}
 use Rattle.site_openings.specs.Openings.{Allows, AllowedBy, Contents_of, Named, RefusedBy, Refuses, no_restore}
@@ -15,7 +18,7 @@ use Rattle.site_core.specs.Faults.{status_in}
 use Rattle.site_opening.specs.Opens.{log_checks, store_checks}
 use Rattle.site_openings.proofs.CheckLemmas.{allowed_both, never_both, refused_behind, refused_front}
 use Rattle.transactions_command.specs.Entering.{site_checks}
-use Rattle.transactions_command.proofs.CheckLemmas.{failure_or, names_disk, not_disk, quiet_again, restoring_refuses, same_contents, unready_lost}
+use Rattle.transactions_command.proofs.CheckLemmas.{failure_or, not_disk, quiet_again, restoring_refuses, same_contents, unready_lost}
 use Rattle.transactions_command.proofs.opening.open_log.Goals as goal
 
 pub returns-in_err-head-clause-answers : goal.returns-in_err-head-clause-answers
@@ -86,6 +89,12 @@ returns-in_err-table-clause-kept g c =
     rw (p.1, p.2) (⊎_elim (λ failed. inl failed) (λ isnt. inr (λ name. c.in_err-table.ensures.refused_same isnt name ∙ c.in_ok-head.ensures.same name))
     (failure_or c.in_err-table.field-0.0))
 
+pub returns-in_err-table-clause-failed : goal.returns-in_err-table-clause-failed
+returns-in_err-table-clause-failed g c name is =
+    let p = err_from_is_err_and c.from_residual-in_err-table.result c.from_residual-in_err-table.ensures.1 in
+    let given : c.in_err-table.field-0.0 ≡ DiskFault name = same_fault c.from_residual-in_err-table.result p.0 c.in_err-table.field-0.0 (DiskFault name) p.1 p.2 is in
+    omega (arith, c.in_ok-head.ensures.reads.later name, c.in_err-table.ensures.failed name (ap (λ (f : SiteFault). Err f) given))
+
 pub returns-clause-finds : goal.returns-clause-finds
 returns-clause-finds g c tells at fit shown =
     let site = c.in_ok-head.ensures.stands tells at fit (λ name le. shown name (omega (arith, le))) in
@@ -115,9 +124,3 @@ returns-clause-refuses g c tells status refused =
 pub returns-clause-quiet : goal.returns-clause-quiet
 returns-clause-quiet g c =
     quiet_again g.D.Disk c.args.site.now c.open_site.new.site c.open_site_log.new.site c.in_ok-head.ensures.reads.quiet c.in_ok-table.ensures.reads.quiet
-
-pub returns-in_err-table-clause-failed : goal.returns-in_err-table-clause-failed
-returns-in_err-table-clause-failed g c name is =
-    let p = err_from_is_err_and c.from_residual-in_err-table.result c.from_residual-in_err-table.ensures.1 in
-    let rose = c.in_err-table.ensures.failed name (names_disk c.from_residual-in_err-table.result p.0 c.in_err-table.field-0.0 name _ p.1 p.2 is refl) in
-    omega (arith, c.in_ok-head.ensures.reads.later name, rose)

@@ -1,4 +1,4 @@
-use Rattle.std.proofs.Common.{map, subst, arith}
+use Rattle.std.proofs.Common.{map, [], subst, arith}
 use Rattle.std.proofs.lemmas.Result.{err_from_is_err_and}
 use Rattle.txn_table.specs.Table.{change_of}
 use Rattle.site_core.specs.Faults.{fault_in, of_lanes}
@@ -24,7 +24,7 @@ returns-in_err-advance_all-clause-goes_on g c tells opened at enough stands goes
     let cut = lane_cuts g.D.Disk c.args.spaces c.args.self.now.lanes.items c.advance_all.new.self.lanes.items fault c.in_err-advance_all.ensures.failed in
     rw (p.1, p.2)
     (goes_cut g.D.Disk tells (λ d f le. g.met.D.Disk.reads_as d f tells le) c.args.era.now c.args.spaces c.args.to (map change_of c.args.changes.now) c.args.self.now c.advance_all.new.self
-    moved.others moved.as_many moved.beyond moved.works opened at enough stands goes c.args.era.now.number (omega arith) (fault_in (of_lanes fault)) cut)
+    moved.others moved.as_many moved.beyond moved.works opened at enough stands goes c.args.era.now.number (omega arith) (fault_in (of_lanes [] fault)) cut)
 
 pub returns-in_err-advance_all-clause-goes : goal.returns-in_err-advance_all-clause-goes
 returns-in_err-advance_all-clause-goes g c tells = goes_from g.D.Disk c.args.era.now.number c.args.era.now.number c.args.self.now c.advance_all.new.self c.args.spaces c.args.to
@@ -76,4 +76,4 @@ returns-in_err-advance_all-clause-failed g c name is =
     let fault = c.in_err-advance_all.field-0.0 in
     let rose = lane_fails g.D.Disk c.args.spaces c.args.self.now.lanes.items c.advance_all.new.self.lanes.items fault c.in_err-advance_all.ensures.failed in
     moved_rose g.D.Disk c.args.era.now c.args.spaces c.args.to (map change_of c.args.changes.now) c.args.self.now c.advance_all.new.self c.advance_all.ensures.moved name c.requires.opened.enough
-    (subst (FailsOnLane g.D.Disk c.args.spaces c.args.self.now.lanes.items c.advance_all.new.self.lanes.items) (same_fault c.from_residual.result p.0 (of_lanes fault) _ p.1 p.2 is) rose)
+    (subst (FailsOnLane g.D.Disk c.args.spaces c.args.self.now.lanes.items c.advance_all.new.self.lanes.items) (same_fault c.from_residual.result p.0 (of_lanes [] fault) _ p.1 p.2 is) rose)

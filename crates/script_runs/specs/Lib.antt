@@ -1,6 +1,0 @@
-pub mod Batches
-pub mod Extending
-pub mod Scripts
-pub mod ScriptSteps
-pub mod Stages
-pub mod Images

@@ -1,0 +1,9 @@
+mod WayLemmas
+mod FrameLemmas
+mod BringLemmas
+mod CheckLemmas
+mod EnterLemmas
+mod PlaceLemmas
+mod RefusalLemmas
+mod FormLemmas
+mod ReadLemmas
