@@ -71,7 +71,7 @@ cut_short() {
 
 # The number in big-endian bytes of a file: FILE OFFSET COUNT
 number() {
-    od -An -v -tu1 -j "$2" -N "$3" "$1" | awk '{ for (i = 1; i <= NF; i++) n = 256 * n + $i } END { printf "%.0f", n }'
+    od -An -v -tu1 -j "$2" -N "$3" "$1" 2>/dev/null | awk '{ for (i = 1; i <= NF; i++) n = 256 * n + $i } END { printf "%.0f", n }'
 }
 
 # A byte over one of a file: FILE OFFSET BYTE
@@ -555,10 +555,10 @@ lets_fail() {
 
 meets_system_errors() {
     site
-    # Catalogue, spare disk, boot file, 17 volumes, log, chunk.
-    for n in 1:cat 2:spare 3:boot 4:vol00 20:vol16 21:log 22:chunk00; do
-        lets_fail fdatasync EIO "${n%:*}" -D A 0
-        cut_short "${n#*:}: Input/output error"
+    # The syncs in order: catalogue, spare disk, boot file, 17 volumes, the log twice, the chunk.
+    for place in 1:cat 2:spare 3:boot 4:vol00 20:vol16 21:log 23:chunk00; do
+        lets_fail fdatasync EIO "${place%:*}" -D A 0
+        cut_short "${place#*:}: Input/output error"
     done
     lets_fail fsync EIO 1 -D A 0
     says 'the folder: Input/output error' ''
