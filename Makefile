@@ -25,9 +25,11 @@ demo: all
 test: all
 	tests/run.sh bin/onbar
 
-# Throughput and memory. Not part of the checks.
+# Throughput, memory and calls. Not part of the checks.
 bench: all
 	bench/log_script.sh bin/onbar
+	bench/lane.sh bin/onbar
+	bench/log_calls.sh bin/onbar
 
 # Proofs, must-fail edits, tests and stored runs, and then the program over files.
 check:
