@@ -245,7 +245,7 @@ awk '
     END {
         show("onbar -D A 0, 65,536 pages:", "run.times")
         show("bare C loop:", "loop.times")
-        printf "%-46s%7.2f\n", "the first as a multiple of the loop's:", time["run.times"] / time["loop.times"]
+        printf "%-46s%7.2f\n", "the first by the loop:", time["run.times"] / time["loop.times"]
         show("onbar -D A 0, 4,096 pages:", "small.times")
         show("onbar -D A 0, 65,536 pages, nothing to do:", "again.times")
         show("onbar -D A, 65,536 pages, nothing to do:", "all.times")
