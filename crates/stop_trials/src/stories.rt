@@ -1,4 +1,4 @@
-//! Nine commands one after another, each of which is stopped somewhere and crashes.
+//! Ten commands one after another, each of which is stopped somewhere and crashes.
 use site_disk::OutOfMemory;
 use site_model::DiskName;
 use std::alloc::{AllocError, Global};
@@ -141,7 +141,7 @@ fn shows_pages<R: Threads + Sync>(
     Ok(true)
 }
 
-/// Nine commands, and then a show of each page. Answers whether some added no record, some a part of their script, and all of it.
+/// Ten commands, and then a show of each page. Answers whether some added no record, some a part of their script, and all of it.
 fn tell_story<R: Threads + Sync>(rt: &R, alloc: Global, seed: &mut u64) -> Result<[bool; 3], Fail> {
     let mut story = Story {
         bytes: formatted(rt, alloc, INIT.words)?,
@@ -149,7 +149,7 @@ fn tell_story<R: Threads + Sync>(rt: &R, alloc: Global, seed: &mut u64) -> Resul
         pages: [(0, 0); 4],
     };
     let mut found = [false; 3];
-    for number in 1..=9 {
+    for number in 0..=9 {
         let added = go_on(rt, alloc, &mut story, number, seed)?;
         found[0] |= added == 0;
         found[1] |= 0 < added && added < 12;
