@@ -169,6 +169,10 @@ refuses_words() {
 2 -j 17 -T
 3 -j 4
 TEXT
+    # a word that isn't UTF-8
+    gives 24 "$(printf '\377')"
+    prints_nothing
+    says "the words can't be had" ''
 }
 
 refuses_script_lines() {
@@ -230,6 +234,15 @@ refuses_for_its_disks() {
         prints "bad record in $disk at slot 4294967295"
         cp ../disk $disk
     done
+    # the mark of a restore under way, number 1, unprepared, to the end
+    cp boot ../disk
+    for at in 4360 4361 4362; do poke boot $at 1; done
+    for form in '-T' '-D A 0'; do
+        # shellcheck disable=SC2086
+        gives 14 $form </dev/null
+        prints 'restore 1 is active'
+    done
+    cp ../disk boot
     cp chunk00 ../chunk00
     : >chunk00
     gives 16 -D A 0
