@@ -1,5 +1,6 @@
 -- Transactions that are ended.
-use Rattle.std.proofs.Common.{◌≡◌, ℕ, zero, suc, ◌<◌, Bool, true, false, nat_eq, List, [], ◌∷◌, length, map, Some, inl, refl, sym, subst, arith}
+use Rattle.std.proofs.Common.{◌≡◌, ℕ, zero, suc, ◌<◌, Bool, true, false, nat_eq, List, [], ◌∷◌, ◌++◌, length, map, Some, inl, inr, refl, sym, ap, ◌∙◌, subst, arith, length-set}
+use Rattle.std.proofs.lemmas.Bool.{cases_eq}
 use Rattle.std.proofs.lemmas.Option.{slice_get_within}
 use Rattle.std.specs.List.{AllByRecursion}
 use Rattle.std.specs.Prelude.{slice_get}
@@ -10,8 +11,13 @@ use Rattle.catalogue_journal.specs.Catalogues.{additions_of}
 use Rattle.catalogue_journal.specs.Commits.{Ends}
 use Rattle.catalogue_journal.specs.Transactions.{Addition, IsAddition}
 use Rattle.object_volume.specs.declared.volume.Volume.{Volume}
-use Rattle.object_store.specs.Returns.{Placed, place_of_addition, AllGiveBack, CanCancel}
-use Rattle.object_store.specs.Stores.{OfEach}
+use Rattle.block_chain.specs.declared.runs.Run.{Run}
+use Rattle.object_store.specs.Endings.{HoldWith}
+use Rattle.object_store.specs.Holdings.{Holds}
+use Rattle.object_store.specs.Reading.{ChangesOne}
+use Rattle.object_store.specs.Returns.{Placed, place_of_addition, runs_on, AllGiveBack, CanCancel, Cancels}
+use Rattle.object_store.specs.Stores.{OfEach, IsOpenAt}
+use Rattle.object_store.proofs.ReturnLemmas.{slice_get-set_same, slice_get-set_other, one_value}
 use Rattle.session_machine.specs.Conditions.{IsAddedTo}
 use Rattle.session_machine.specs.States as machine
 use Rattle.bsa_session.specs.Sessions.{Suits}
@@ -68,3 +74,28 @@ open_added s t is = subst (λ (x : State). (machine.has_draft (view_of x) ≡ tr
     of (Sending descriptor) = (refl, refl)
     of (Querying matches) = (refl, refl)
     of (Getting reading) = (refl, refl)
+
+-- what the end of an object that was being sent keeps of one volume holds of each
+module _ {D : Type 0} (number : ℕ) (old new : List (Volume D)) (one : ChangesOne Cancels number old new) where
+  each_kept : (P : ℕ → Volume D → Type 0) → ((place : ℕ) (was is : Volume D) → Cancels was is → P place was → P place is) → OfEach P old → OfEach P new
+  each_kept P keeps each place volume there = elim (cases_eq place number) [
+    | inl same ↦ here same
+    | inr other ↦ each place volume (sym (slice_get-set_other old place number one.is other) ∙ ap (λ (l : List (Volume D)). slice_get l place) (sym one.changed) ∙ there)
+  ]
+    where
+      here : place ≡ number → P place volume
+      here same =
+          let before : slice_get old place ≡ Some one.was = ap (slice_get old) same ∙ one.there in
+          let set : slice_get new place ≡ Some one.is =
+          ap (slice_get new) same ∙ ap (λ (l : List (Volume D)). slice_get l number) one.changed ∙ slice_get-set_same old number one.is (slice_get_within old number one.was one.there) in
+          subst (P place) (one_value new place one.is volume set there) (keeps place one.was one.is one.by (each place one.was before))
+
+  pub opened_cancelled : OfEach IsOpenAt old → OfEach IsOpenAt new
+  opened_cancelled = each_kept IsOpenAt (λ place was is by before. record { number = by.number ∙ before.number; opened = by.opened })
+
+  pub holds_cancelled : (placed : List Placed) (others : ℕ → List (List Run)) → HoldWith placed others old → HoldWith placed others new
+  holds_cancelled placed others =
+      each_kept (λ place volume. Holds volume (runs_on place placed ++ others place)) (λ place was is by before. by.holds (runs_on place placed ++ others place) before)
+
+  pub count_cancelled : length new ≡ length old
+  count_cancelled = ap length one.changed ∙ length-set old number one.is

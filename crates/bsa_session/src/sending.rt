@@ -3,10 +3,10 @@ ghost use Rattle.std.specs.Prelude.{◌≡◌, ◌≢◌, ◌+◌, ◌-◌, ◌*
 ghost use Rattle.site_disk.specs.Causes.{Rose};
 ghost use Rattle.site_disk.specs.Images.{Leaves, OnlyAfter};
 ghost use Rattle.site_disk.specs.Ledger.{MayUse, Uses};
-ghost use Rattle.block_chain.specs.Blocks.{blocks_for};
+ghost use Rattle.block_chain.specs.Blocks.{blocks_for, blocks_of_runs};
 ghost use Rattle.block_chain.specs.declared.runs.Run.{Run as Run-of-blocks};
 ghost use Rattle.object_volume.specs.Objects.{place_of, Spares};
-ghost use Rattle.object_volume.specs.Volumes.{disk_of, free_of, blocks_in, number_of, open_blocks, IsOpen, IsIdle, IsSending, Sends};
+ghost use Rattle.object_volume.specs.Volumes.{disk_of, free_of, blocks_in, blocks_sent, number_of, open_blocks, Grows, IsOpen, IsIdle, IsSending, Sends};
 ghost use Rattle.session_machine.specs.Answers.{IsNoFailure};
 ghost use Rattle.session_machine.specs.Calls.{Creates, SendsPiece, EndsData};
 ghost use Rattle.session_machine.specs.Conditions.{IsSound};
@@ -70,6 +70,7 @@ fn end_object<D: Disk>(
 
     ensures sent { IfOk result (λ sent. (message : List ℕ) → Sends D.is_modelled D.bytes volume.old message
         → IsSentAs D.is_modelled (D.bytes (disk_of volume.new)) message (runs_of_last (additions_of transaction.new.staged)) sent.0 sent.1) }
+    ensures listed { OnOk result (blocks_of_runs (runs_of_last (additions_of transaction.new.staged)) ≡ blocks_sent volume.old) }
     ensures durable { IsTrue D.is_modelled
         → OnOk result (OnlyAfter era.now.number (D.bytes (disk_of volume.new)) (D.image (disk_of volume.new))) }
     ensures holds { OnOk result ((objects : List (List Run-of-blocks))
@@ -118,6 +119,7 @@ impl Session {
         ensures volume { Suits D.is_modelled D.bytes (state_of self.new) volume.new }
 
         ensures begun { result ≡ BsaRc.Success → Sends D.is_modelled D.bytes volume.new [] }
+        ensures none_taken { result ≡ BsaRc.Success → blocks_sent volume.new ≡ [] }
         ensures disk { disk_of volume.new ≡ disk_of volume.old }
         ensures free { free_of volume.new ≡ free_of volume.old }
         ensures leaves { result ≡ BsaRc.Success → LeavesOpen D.bytes volume.old volume.new }
@@ -152,6 +154,8 @@ impl Session {
         ensures store_full { is_sending (state_of self.old) ≡ true → (message : List ℕ) → Sends D.is_modelled D.bytes volume.old message
             → (result ≡ BsaRc.NoResources Lack.Blocks)
             ↔ (length (free_of volume.old) < blocks_for (length message + length bytes.now) - blocks_for (length message)) }
+        ensures taken { (message : List ℕ) → Sends D.is_modelled D.bytes volume.old message
+            → result ≡ BsaRc.Success → Grows volume.old volume.new (blocks_for (length message + length bytes.now) - blocks_for (length message)) }
         ensures untaken { result ≡ BsaRc.NoResources Lack.Blocks → volume.new ≡ volume.old }
         ensures invalid { result ≡ BsaRc.InvalidCallSequence → volume.new ≡ volume.old }
         ensures leaves { IsTrue D.is_modelled → result ≡ BsaRc.Success → LeavesOpen D.bytes volume.old volume.new }
@@ -199,6 +203,7 @@ impl Session {
 
         ensures sent { IfOk result (λ ended. IfSome ended (λ sent. (message : List ℕ) → Sends D.is_modelled D.bytes volume.old message
             → IsSentAs D.is_modelled (D.bytes (disk_of volume.new)) message (last_runs (state_of self.new)) sent.0 sent.1)) }
+        ensures listed { IfOk result (λ ended. IfSome ended (λ sent. blocks_of_runs (last_runs (state_of self.new)) ≡ blocks_sent volume.old)) }
         ensures durable { IsTrue D.is_modelled → IfOk result (λ ended. IfSome ended (λ sent.
             OnlyAfter era.now.number (D.bytes (disk_of volume.new)) (D.image (disk_of volume.new)))) }
         ensures holds { IfOk result (λ ended. IfSome ended (λ sent. (objects : List (List Run-of-blocks))

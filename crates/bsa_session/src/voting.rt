@@ -195,6 +195,10 @@ impl Session {
         ensures refused { result ≡ BsaRc.InvalidCallSequence → self.new ≡ self.old }
         ensures cat { store.new.cat ≡ store.old.cat }
         ensures untouched { has_draft (state_of self.old) ≡ false → store.new ≡ store.old }
+        ensures opened { is_broken (state_of self.old) ≡ false → IsOpenStore store.new }
+        ensures holds { has_draft (state_of self.old) ≡ true → (others : ℕ → List (List Run-of-blocks))
+            → HoldWith (places (objects_of store.old.cat) (added_in (state_of self.old))) others store.old.volumes.items
+            → HoldWith (places (objects_of store.new.cat) []) others store.new.volumes.items }
         ensures returned { Drops D.is_modelled D.bytes (state_of self.old) store.old.volumes.items store.new.volumes.items }
     {
         match mem::replace(&mut self.state, State::None) {
@@ -216,6 +220,10 @@ fn drop_transaction<D: Disk>(store: &mut Store<D>, transaction: &Transaction)
         → Suits D.is_modelled D.bytes (with_work (draft_of transaction.now) transaction.now.work) volume) store.old.volumes.items }
     requires holds { HoldAll (places (objects_of store.old.cat) (additions_of transaction.now.staged)) store.old.volumes.items }
     ensures cat { store.new.cat ≡ store.old.cat }
+    ensures opened { IsOpenStore store.new }
+    ensures holds { (others : ℕ → List (List Run-of-blocks))
+        → HoldWith (places (objects_of store.old.cat) (additions_of transaction.now.staged)) others store.old.volumes.items
+        → HoldWith (places (objects_of store.new.cat) []) others store.new.volumes.items }
     ensures returned { Drops D.is_modelled D.bytes (with_work (draft_of transaction.now) transaction.now.work) store.old.volumes.items store.new.volumes.items }
 {
     store.abort(&transaction.staged);

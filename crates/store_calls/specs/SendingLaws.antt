@@ -12,10 +12,11 @@ use Rattle.object_volume.specs.Volumes.{disk_of, open_blocks}
 use Rattle.object_volume.specs.declared.volume.Volume.{Volume}
 use Rattle.object_store.specs.Stores.{OfEach}
 use Rattle.site_layouts.specs.VolumeLaws.{IsSentTo}
+use Rattle.bsa_session.specs.Sessions.{LeavesOpen}
 use Rattle.store_calls.specs.Transactions.{WritesFree}
 
 -- each of these blocks is one of those
-abbrev pub AreAmong : List ℕ → List ℕ → Type 0
+abbrev AreAmong : List ℕ → List ℕ → Type 0
 AreAmong blocks others = (block : ℕ) → 0 < times block blocks → 0 < times block others
 
 spares_again : (blocks more : List ℕ) (limit long : ℕ) (old mid new : List ℕ) → AreAmong more blocks → limit ≤ long → Spares blocks limit old mid → Spares more long mid new
@@ -26,13 +27,8 @@ spares_again blocks more limit long old mid new among le first second = record {
 }
 
 module _ {D : Type 0} (disk : Ghosts D) where
-  -- what a send leaves to the next one: it opens no block to writing, and the disk is no shorter
-  pub record LeavesOpen (was is : Volume D) : Type 0 where
-    pub among : AreAmong (open_blocks is) (open_blocks was)
-    pub no_shorter : length (disk.bytes (disk_of was)) ≤ length (disk.bytes (disk_of is))
-
   -- So sends one after another in an era write what was free before the first.
-  pub writes_again : (from : ℕ) (was mid is : Volume D) → LeavesOpen was mid → WritesFree disk from was mid → WritesFree disk from mid is → WritesFree disk from was is
+  pub writes_again : (from : ℕ) (was mid is : Volume D) → LeavesOpen disk.bytes was mid → WritesFree disk from was mid → WritesFree disk from mid is → WritesFree disk from was is
   writes_again from was mid is leaves first second =
       goes_on (Spares (open_blocks was) (length (disk.bytes (disk_of was)))) (Spares (open_blocks mid) (length (disk.bytes (disk_of mid)))) from
       (disk.image (disk_of was)) (disk.image (disk_of mid)) (disk.image (disk_of is)) first second

@@ -7,7 +7,7 @@ ghost use Rattle.object_volume.specs.Volumes.{disk_of};
 ghost use Rattle.object_volume.specs.declared.volume.Volume.{Volume};
 ghost use Rattle.object_store.specs.Stores.{OfEach};
 ghost use Rattle.site_layouts.specs.VolumeLaws.{IsSentTo};
-ghost use Rattle.store_calls.specs.SendingLaws.{LeavesOpen};
+ghost use Rattle.bsa_session.specs.Sessions.{LeavesOpen};
 ghost use Rattle.catalogue_journal.specs.Transactions.{Addition, ended, object_with, slots_wanted};
 ghost use Rattle.catalogue_replay.specs.Contents.{Contents};
 ghost use Rattle.object_store.specs.declared.store.Store.{Store};
@@ -56,7 +56,7 @@ pub fn a_store_agrees_behind_a_transaction<D: Disk>()
 
 /// Sends to a volume one after another in an era write blocks that were free before the first.
 pub fn sends_are_one_send<D: Disk>()
-    ensures { (from : ℕ) (was mid is : Volume D) → LeavesOpen D.Disk was mid → WritesFree D.Disk from was mid → WritesFree D.Disk from mid is
+    ensures { (from : ℕ) (was mid is : Volume D) → LeavesOpen D.bytes was mid → WritesFree D.Disk from was mid → WritesFree D.Disk from mid is
         → WritesFree D.Disk from was is }
 {}
 

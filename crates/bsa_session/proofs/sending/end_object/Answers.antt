@@ -1,6 +1,6 @@
 use Rattle.std.proofs.Common.{◌≡◌, List, ◌∷◌, map, refl, sym, ap, ◌∙◌, subst}
 use Rattle.std.proofs.lemmas.List.{map_push}
-use Rattle.block_chain.specs.Blocks.{AreRunsOf}
+use Rattle.block_chain.specs.Blocks.{AreRunsOf, blocks_of_runs}
 use Rattle.block_chain.specs.declared.runs.Run.{Run}
 use Rattle.catalogue_journal.specs.Views.{addition_of}
 use Rattle.object_volume.specs.Objects.{object}
@@ -70,5 +70,16 @@ returns-clause-leaves g c tells =
           rw (w.result-is)
           (leaves_free g.D.Disk.bytes c.args.volume.now c.end.new.self c.in-Ok.ensures.free (idle_sends c.end.new.self c.in-Ok.ensures.idle) c.in-Ok.ensures.blocks
           (c.in-Ok.ensures.spared tells).no_shorter)
+      | in-Err w ↦ rw (w.result-is) tt
+    ]
+
+pub returns-clause-listed : goal.returns-clause-listed
+returns-clause-listed g c =
+    elim c.match-push.branch [
+      | in-Ok-push w ↦
+          let added = ap (map addition_of) w.in-Ok-push.ensures.items ∙ map_push addition_of c.args.transaction.now.staged.add.items _ in
+          let last = ap runs_of_last added ∙ runs_of_last-push (map addition_of c.args.transaction.now.staged.add.items) _ in
+          rw (w.result-is)
+          (ap blocks_of_runs last ∙ c.in-Ok.ensures.listed)
       | in-Err w ↦ rw (w.result-is) tt
     ]

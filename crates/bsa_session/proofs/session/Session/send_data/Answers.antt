@@ -25,3 +25,6 @@ returns-in-Ok-clause-leaves g c tells ok =
     let is_so = sym c.is_sending.ensures ∙ c.if-not-is_sending.false in
     let begun = (receives_open g.D.Disk.is_modelled g.D.Disk.bytes c.args.volume.now (state_of c.args.self.now) is_so c.requires.volume).1 in
     leaves_grown g.D.Disk.bytes c.args.volume.now c.send.new.self _ (c.in-Ok.ensures.taken begun.message begun.sends) (c.in-Ok.ensures.spared tells).no_shorter
+
+pub returns-in-Ok-clause-taken : goal.returns-in-Ok-clause-taken
+returns-in-Ok-clause-taken g c message sends ok = c.in-Ok.ensures.taken message sends
