@@ -1,12 +1,21 @@
 //! The texts of answers, and the record of fields.
+ghost use Rattle.std.specs.Prelude.{IfOk};
+ghost use Rattle.bsa_lines.specs.BsaLine.{line_of_bsa};
+ghost use Rattle.bsa_lines.specs.Lines.{IsLine};
+
 use crate::{Fields, Reply, reply_text};
 use bsa_descriptor::{CopyType, Descriptor, ObjectStatus, ObjectType, Text};
 use bsa_lines::{BsaLine, read_bsa_line};
 use session_machine::{Access, BsaRc, Lack};
 use std::test::Fail;
 
-fn line(text: &[u8]) -> Result<BsaLine, Fail> {
-    Ok(read_bsa_line(text).ok().flatten().ok_or("it is no line")?)
+fn line(text: &[u8]) -> Result<BsaLine, Fail>
+    ensures { IfOk result (λ line. IsLine (line_of_bsa line)) }
+{
+    match read_bsa_line(text) {
+        Ok(Some(line)) => Ok(line),
+        _ => Err(Fail::from("it is no line")),
+    }
 }
 
 #[test]
