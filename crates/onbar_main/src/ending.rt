@@ -1,7 +1,9 @@
 // How the process ends.
-ghost use Rattle.std.specs.Prelude.{◌≡◌, ◌↔◌, IsSome};
+ghost use Rattle.std.specs.Prelude.{◌≡◌, ◌↔◌, Some, IsSome};
+ghost use Rattle.std.specs.declared.io.Error.{Error};
 ghost use Rattle.onbar_main.specs.Endings.{error_on, start_number};
 ghost use Rattle.site_commands.specs.Commands.{CutsShort};
+ghost use Rattle.site_model.specs.declared.disk_name.DiskName.{DiskName as NameView};
 ghost use Rattle.site_model.specs.declared.disk_name.DiskName.TheVariants.{Cat, Spare, Volume, Chunk};
 
 use host_disk::{FileDisk, HostFault};
@@ -156,7 +158,10 @@ pub fn cut_of(
     input: Option<io::Error>,
     output: Option<io::Error>,
 ) -> Option<Cut>
-    ensures { IsSome result ↔ CutsShort status.now }
+    ensures cut { IsSome result ↔ CutsShort status.now }
+    // What it says of a disk is that disk's last error.
+    ensures disk { (name : NameView) (error : Error) → status.now ≡ Status.DiskFault name → error_on site name ≡ Some error
+        → result ≡ Some (Cut.Disk name error) }
 {
     let unknown = io::Error::from(io::ErrorKind::Other);
     match status {
