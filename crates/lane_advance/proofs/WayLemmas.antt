@@ -85,7 +85,7 @@ module _ (history : History) (n space count to upto part : ℕ) (list : List Cha
   pub under_way_first : (start more : ℕ) (run : Run) → drop start list ≡ changes_behind upto list
       → own space count (take more (drop start list)) ≡ take part (own space count (drop start list))
       → own space count (drop more (drop start list)) ≡ drop part (own space count (drop start list))
-      → IsRun run.commit run.count (own space count (take more (drop start list))) → Rises run.commit (drop more (drop start list))
+      → IsRun upto run.commit run.count run.whole (own space count (take more (drop start list))) → Rises run.commit (drop more (drop start list))
       → IsUnderWay history n space count upto part list (record { taken = start + more; run = run; upto = upto; part = part })
   under_way_first start more run starts front rest is_run rises =
       let joined : drop more (drop start list) ≡ drop (start + more) list = drop-drop more start list in
@@ -93,7 +93,7 @@ module _ (history : History) (n space count to upto part : ℕ) (list : List Cha
         laid = part;
         more = omega arith;
         left = ap (own space count) (sym joined) ∙ rest ∙ ap (drop part) (own_behind start starts);
-        run = subst (IsRun run.commit run.count) (front ∙ ap (take part) (own_behind start starts)) is_run;
+        run = subst (IsRun upto run.commit run.count run.whole) (front ∙ ap (take part) (own_behind start starts)) is_run;
         rises = subst (Rises run.commit) joined rises;
         place = leads.place;
         not_before = (omega arith, λ same. omega arith);
@@ -119,7 +119,7 @@ module _ (history : History) (n space count to upto part : ℕ) (list : List Cha
     total = laid_at way upto laid_then
 
     abbrev place_then : Place
-    place_then = cut way n total
+    place_then = cut upto way n total
 
     along : IsAlong behind space count under.laid left front
     along = step_along behind space count under.laid left front pages (ap (own space count) is_left ∙ under.left) chooses
@@ -147,14 +147,14 @@ module _ (history : History) (n space count to upto part : ℕ) (list : List Cha
     rises_parts = subst (Rises old.run.commit) (sym (take-append-drop front left)) rises_left
 
     module _ (placed_upto : ℕ) (taken_is : new.taken ≡ old.taken + front)
-        (run_is : (laid : List Change) → IsRun old.run.commit old.run.count laid → Rises old.run.commit (take front left) → length (laid ++ own space count (take front left)) < 2 ^ 32
-        → IsRun new.run.commit new.run.count (laid ++ own space count (take front left)))
+        (run_is : (laid : List Change) → IsRun upto old.run.commit old.run.count old.run.whole laid → Rises old.run.commit (take front left) → length (laid ++ own space count (take front left)) < 2 ^ 32
+        → IsRun upto new.run.commit new.run.count new.run.whole (laid ++ own space count (take front left)))
         (onward : (rest : List Change) → Rises old.run.commit (take front left ++ rest) → Rises new.run.commit rest)
-        (upto_is : (laid : List Change) → placed_upto ≡ (cut_by to laid (own space count (drop front left))).upto)
-        (part_is : (laid : List Change) → IsRun new.run.commit new.run.count laid → Rises new.run.commit (drop front left) → new.part ≡ (cut_by to laid (own space count (drop front left))).part)
+        (upto_is : (laid : List Change) → IsRun upto new.run.commit new.run.count new.run.whole laid → Rises new.run.commit (drop front left) → placed_upto ≡ (cut_by upto to laid (own space count (drop front left))).upto)
+        (part_is : (laid : List Change) → IsRun upto new.run.commit new.run.count new.run.whole laid → Rises new.run.commit (drop front left) → new.part ≡ (cut_by upto to laid (own space count (drop front left))).part)
         (min_is : new.upto ≡ min placed_upto to) where
-      run_then : IsRun new.run.commit new.run.count (take laid_then behind)
-      run_then = subst (IsRun new.run.commit new.run.count) along.laid_then
+      run_then : IsRun upto new.run.commit new.run.count new.run.whole (take laid_then behind)
+      run_then = subst (IsRun upto new.run.commit new.run.count new.run.whole) along.laid_then
           (run_is (take under.laid behind) under.run (rises_front old.run.commit (take front left) (drop front left) rises_parts)
           (omega (arith, few_behind, ap (λ (l : List Change). length l) along.laid_then, shorter laid_then behind)))
         where
@@ -166,18 +166,21 @@ module _ (history : History) (n space count to upto part : ℕ) (list : List Cha
       rises_then : Rises new.run.commit (drop front left)
       rises_then = onward (drop front left) rises_parts
 
-      cut_is : cut_by to (take laid_then behind) (own space count (drop front left)) ≡ place_then
+      cut_is : cut_by upto to (take laid_then behind) (own space count (drop front left)) ≡ place_then
       cut_is =
-          ap (λ (l : List Change). cut_by to (take laid_then behind) l) along.left_then
-          ∙ ap (λ (t : ℕ). cut behind t laid_then) (sym leads.is_to)
+          ap (λ (l : List Change). cut_by upto to (take laid_then behind) l) along.left_then
+          ∙ ap (λ (t : ℕ). cut upto behind t laid_then) (sym leads.is_to)
           ∙ sym (cut_of_rest history n space upto laid_then)
 
+      begun : laid_at way upto 0 ≤ total
+      begun = omega arith
+
       is_place : IsPlace history n space place_then.upto place_then.part
-      is_place = cut_is_place history n space total
+      is_place = cut_is_place history n space upto total leads.place.is_live begun
 
       upto_same : new.upto ≡ place_then.upto
       upto_same =
-          let at : placed_upto ≡ place_then.upto = upto_is (take laid_then behind) ∙ ap (λ (p : Place). p.upto) cut_is in
+          let at : placed_upto ≡ place_then.upto = upto_is (take laid_then behind) run_then rises_then ∙ ap (λ (p : Place). p.upto) cut_is in
           let le : place_then.upto ≤ n = live_within (reset_points history) n place_then.upto is_place.is_live in
           omega (arith, min_is, at, le, leads.is_to)
 
@@ -188,7 +191,7 @@ module _ (history : History) (n space count to upto part : ℕ) (list : List Cha
       at_new F is = subst (λ (u : ℕ). F u new.part) (sym upto_same) (subst (F place_then.upto) (sym part_same) is)
 
       lays_then : laid_at way new.upto new.part ≡ total
-      lays_then = at_new (λ u p. laid_at way u p ≡ total) (cut_lays history n space total total_within)
+      lays_then = at_new (λ u p. laid_at way u p ≡ total) (cut_lays history n space upto total leads.place.is_live begun total_within)
 
       dropped : drop new.taken list ≡ drop front left
       dropped = ap (λ (k : ℕ). drop k list) taken_is ∙ sym (drop-drop front old.taken list) ∙ ap (drop front) (sym is_left)
@@ -227,7 +230,7 @@ module _ (history : History) (n space count to upto part : ℕ) (list : List Cha
       goes_on = record {
         under_way = under_way_then;
         pages = pages_then;
-        other = λ same_upto same_part. cut_differs history n space old.upto old.part total (omega (arith, under.lays, further)) total_within (sym upto_same ∙ same_upto) (sym part_same ∙ same_part);
+        other = λ same_upto same_part. cut_differs history n space upto old.upto old.part total leads.place.is_live begun (omega (arith, under.lays, further)) total_within (sym upto_same ∙ same_upto) (sym part_same ∙ same_part);
       }
 
   -- At the end all is laid.
@@ -238,12 +241,13 @@ module _ (history : History) (n space count to upto part : ℕ) (list : List Cha
 
   pub at_end : (progress : Progress) → IsUnderWay history n space count upto part list progress → own space count (drop progress.taken list) ≡ [] → IsAtEnd progress.upto progress.part
   at_end progress under none =
-      let end : cut way n (length way) ≡ record { upto = n; part = 0 } = cut_at_end history n space (length way) (omega arith) in
+      let end : cut upto way n (length way) ≡ record { upto = n; part = 0 } = cut_at_end history n space upto (length way) (omega arith) in
+      let begun : laid_at way upto 0 ≤ length way = omega (arith, both_parts upto way) in
       let rest : length (drop under.laid behind) ≡ 0 = ap (λ (l : List Change). length l) (sym under.left ∙ none) in
       let full : laid_at way progress.upto progress.part ≡ length way =
       omega (arith, laid_within history n space progress.upto progress.part under.place, under.lays, rest, length-drop under.laid behind, both_parts upto way) in
-      let lays : laid_at way n 0 ≡ length way = subst (λ (p : Place). laid_at way p.upto p.part ≡ length way) end (cut_lays history n space (length way) (omega arith)) in
-      let at : IsPlace history n space n 0 = subst (λ (p : Place). IsPlace history n space p.upto p.part) end (cut_is_place history n space (length way)) in
+      let lays : laid_at way n 0 ≡ length way = subst (λ (p : Place). laid_at way p.upto p.part ≡ length way) end (cut_lays history n space upto (length way) leads.place.is_live begun (omega arith)) in
+      let at : IsPlace history n space n 0 = subst (λ (p : Place). IsPlace history n space p.upto p.part) end (cut_is_place history n space upto (length way) leads.place.is_live begun) in
       let not_before : IsNotBefore upto part n 0 = subst (λ (p : Place). IsNotBefore upto part p.upto p.part) end
       (cut_is_not_before history n space upto part (length way) leads.place (laid_within history n space upto part leads.place) (omega arith)) in
       record {

@@ -36,7 +36,7 @@ pub record IsUnderWay (history : History) (n space count upto part : ℕ) (list 
   pub laid : ℕ
   pub more : part ≤ laid
   pub left : own space count (drop progress.taken list) ≡ drop laid (changes_behind upto (lane_changes history n space))
-  pub run : IsRun progress.run.commit progress.run.count (take laid (changes_behind upto (lane_changes history n space)))
+  pub run : IsRun upto progress.run.commit progress.run.count progress.run.whole (take laid (changes_behind upto (lane_changes history n space)))
   pub rises : Rises progress.run.commit (drop progress.taken list)
   pub place : IsPlace history n space progress.upto progress.part
   pub not_before : IsNotBefore upto part progress.upto progress.part

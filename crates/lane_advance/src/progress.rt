@@ -35,7 +35,7 @@ pub(crate) fn begin(changes: &[Change], space: u16, count: u32, upto: u64, part:
     let more = laid(rest, space, count, part);
     Progress {
         taken: start + more,
-        run: Run::new().with_laid(&rest[..more], space, count),
+        run: Run::new(upto).with_laid(&rest[..more], space, count),
         upto,
         part,
     }

@@ -220,13 +220,13 @@ fn a_stop_leaves_a_cut(rt: HostRuntime) -> Result<(), Fail> {
         let stamped = left.stamped;
         assert!(rt;
             (place, stamped) == ((0, 0), 0)
-                || (place, stamped) == ((41, 16), 16)
-                || (place, stamped) == ((41, 32), 32),
+                || (place, stamped) == ((0, 16), 16)
+                || (place, stamped) == ((0, 32), 32),
             "{stamped} pages at {}, {} at call {call}",
             place.0,
             place.1
         );
-        if left.begun && place == (41, 16) {
+        if left.begun && place == (0, 16) {
             within = true;
         }
         assert_eq!(rt; (left.end, left.last), ((100, 0), 42), "call {call}");

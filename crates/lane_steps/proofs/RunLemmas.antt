@@ -1,16 +1,17 @@
 -- Changes laid one after another, and the commit of the last ones.
-use Rattle.std.proofs.Common.{◌≡◌, ◌⊎◌, inl, inr, ℕ, ◌+◌, ◌-◌, ◌^◌, ◌<◌, ◌≤◌, ◌==◌, Bool, true, false, List, [], ◌∷◌, ◌++◌, length, map, drop, get_or, refl, sym, ap, ◌∙◌, subst, arith, append_assoc, length-append}
-use Rattle.std.specs.Prelude.{if◌then◌else◌, filter, None, Some}
+use Rattle.std.proofs.Common.{◌≡◌, ◌⊎◌, inl, inr, ℕ, ◌+◌, ◌-◌, ◌^◌, ◌<◌, ◌≤◌, ◌==◌, max, Bool, true, false, List, [], ◌∷◌, ◌++◌, length, map, drop, get_or, refl, sym, ap, ◌∙◌, subst, arith, append_assoc, length-append}
+use Rattle.std.specs.Prelude.{if◌then◌else◌, filter, nat_lt, None, Some}
 use Rattle.std.specs.List.{AllByRecursion}
 use Rattle.std.proofs.lemmas.Bool.Decides.{nat_tests}
 use Rattle.std.proofs.lemmas.Bool.{cases_order}
-use Rattle.std.proofs.lemmas.List.{drop_more, get_or-map, length-map}
+use Rattle.std.proofs.lemmas.List.{append-nil, drop_more, get_or-map, length-map}
 use Rattle.std.proofs.lemmas.List.Elements.{filter-append}
 use Rattle.log_history.specs.Effects.{Change}
 use Rattle.txn_table.specs.declared.changes.Change.{Change as Brought}
 use Rattle.txn_table.specs.Table.{change_of}
-use Rattle.lane_ways.specs.Ways.{changes_by, cut_by}
-use Rattle.lane_ways.specs.ListLaws.{Rises, all_append, all_filter, all_means, filter_none, rises_from, rises_lower}
+use Rattle.lane_ways.specs.Ways.{changes_before, changes_by, cut_by, last_commit}
+use Rattle.lane_ways.specs.ListLaws.{Rises, all_append, all_filter, all_means, filter_all, filter_none, rises_from, rises_lower}
+use Rattle.lane_ways.specs.CutLaws.{last_append}
 use Rattle.lane_steps.specs.Choices.{is_own, own}
 use Rattle.lane_steps.specs.Runs.{IsRun, first_commit}
 
@@ -20,15 +21,42 @@ none_by commit later laid lt all =
     filter_none (λ (change : Change). change.commit == later) laid
     (all_means (λ (change : Change). change.commit ≤ commit) (λ (change : Change). (change.commit == later) ≡ false) laid (λ change le. grind (arith, nat_tests, le, lt)) all)
 
+-- all of them are of commits before a later one
+all_by : (commit later : ℕ) (laid : List Change) → commit < later → AllByRecursion (λ (change : Change). change.commit ≤ commit) laid → changes_before later laid ≡ laid
+all_by commit later laid lt all =
+    filter_all (λ (change : Change). nat_lt change.commit later) laid
+    (all_means (λ (change : Change). change.commit ≤ commit) (λ (change : Change). nat_lt change.commit later ≡ true) laid (λ change le. grind (arith, nat_tests, le, lt)) all)
+
 -- one change more
-run_more : (commit count next more : ℕ) (laid : List Change) (change : Change) → IsRun commit count laid → next ≡ change.commit → commit ≤ next
-    → (next ≡ commit → more ≡ count + 1) → ((next ≡ commit → ⊥) → more ≡ 1) → IsRun next more (laid ++ change ∷ [])
-run_more commit count next more laid change run is le same other = record {
+run_more : (from commit count whole next more kept : ℕ) (laid : List Change) (change : Change) → IsRun from commit count whole laid → next ≡ change.commit → commit ≤ next
+    → (next ≡ commit → more ≡ count + 1) → ((next ≡ commit → ⊥) → more ≡ 1) → (next ≡ commit → kept ≡ whole) → ((next ≡ commit → ⊥) → kept ≡ max whole commit)
+    → IsRun from next more kept (laid ++ change ∷ [])
+run_more from commit count whole next more kept laid change run is le same other same_whole other_whole = record {
   before = all_append (λ (one : Change). one.commit ≤ next) laid (change ∷ [])
       (all_means (λ (one : Change). one.commit ≤ commit) (λ (one : Change). one.commit ≤ next) laid (λ one low. omega (arith, low, le)) run.before) (omega (arith, is), tt);
   counts = by (cases_order next commit);
+  earlier = earlier_by (cases_order next commit) ∙ sym (ap (last_commit from) front);
+  last = last_append from laid (change ∷ []) ∙ last_by (cases_order next commit);
 }
   where
+    front : changes_before next (laid ++ change ∷ []) ≡ changes_before next laid
+    front =
+        let no_so : nat_lt change.commit next ≡ false = grind (arith, nat_tests, is) in
+        filter-append (λ (one : Change). nat_lt one.commit next) laid (change ∷ [])
+        ∙ ap (λ (b : Bool). changes_before next laid ++ (if b then change ∷ [] else [])) no_so
+        ∙ append-nil (changes_before next laid)
+
+    earlier_by : (next ≡ commit) ⊎ ((next < commit) ⊎ (commit < next)) → kept ≡ last_commit from (changes_before next laid)
+    earlier_by (inl equal) = same_whole equal ∙ run.earlier ∙ ap (λ (n : ℕ). last_commit from (changes_before n laid)) (sym equal)
+    earlier_by (inr (inl before)) = absurd (omega (arith, before, le))
+    earlier_by (inr (inr behind)) =
+        other_whole (λ equal. omega (arith, equal, behind)) ∙ sym run.last ∙ sym (ap (last_commit from) (all_by commit next laid behind run.before))
+
+    last_by : (next ≡ commit) ⊎ ((next < commit) ⊎ (commit < next)) → max (last_commit from laid) change.commit ≡ max kept next
+    last_by (inl equal) = omega (arith, is, run.last, equal, same_whole equal)
+    last_by (inr (inl before)) = absurd (omega (arith, before, le))
+    last_by (inr (inr behind)) = omega (arith, is, run.last, other_whole (λ equal. omega (arith, equal, behind)))
+
     mine : changes_by next (change ∷ []) ≡ change ∷ []
     mine = let yes_so : (change.commit == next) ≡ true = grind (arith, nat_tests, is) in ap (λ (b : Bool). if b then change ∷ [] else []) yes_so
 
@@ -103,18 +131,18 @@ within p (change ∷ list) = by (p change) (within p list)
     by false le = omega (arith, le)
 
 -- So far the run is that of the changes laid: all of them are those so far and those of the rest that are own.
-pub record RunsSoFar (space count : ℕ) (all : List Change) (rest : List Change) (run_commit run_count : ℕ) : Type 0 where
+pub record RunsSoFar (from space count : ℕ) (all : List Change) (rest : List Change) (run_commit run_count run_whole : ℕ) : Type 0 where
   pub laid : List Change
   pub parts : all ≡ laid ++ own space count rest
-  pub run : IsRun run_commit run_count laid
+  pub run : IsRun from run_commit run_count run_whole laid
   pub rises : Rises run_commit rest
 
-module _ (space count : ℕ) (changes : List Brought) (i : ℕ) (change : Brought) (lt : i < length changes) (is : change ≡ get_or changes i change) (all : List Change) (few : length all < 2 ^ 32)
-    (run_commit run_count : ℕ) (so_far : RunsSoFar space count all (drop i (map change_of changes)) run_commit run_count) where
+module _ (from space count : ℕ) (changes : List Brought) (i : ℕ) (change : Brought) (lt : i < length changes) (is : change ≡ get_or changes i change) (all : List Change) (few : length all < 2 ^ 32)
+    (run_commit run_count run_whole : ℕ) (so_far : RunsSoFar from space count all (drop i (map change_of changes)) run_commit run_count run_whole) where
   rest_rises : Rises run_commit (change_of change ∷ drop (i + 1) (map change_of changes))
   rest_rises = subst (Rises run_commit) (here changes i change lt is) so_far.rises
 
-  pub run_passed : is_own space count (change_of change) ≡ false → RunsSoFar space count all (drop (i + 1) (map change_of changes)) run_commit run_count
+  pub run_passed : is_own space count (change_of change) ≡ false → RunsSoFar from space count all (drop (i + 1) (map change_of changes)) run_commit run_count run_whole
   run_passed not = record {
     laid = so_far.laid;
     parts = so_far.parts ∙ ap (λ (l : List Change). so_far.laid ++ l) (own_other changes i change lt is space count not);
@@ -122,9 +150,10 @@ module _ (space count : ℕ) (changes : List Brought) (i : ℕ) (change : Brough
     rises = rises_lower run_commit change.commit (drop (i + 1) (map change_of changes)) rest_rises.0 rest_rises.1;
   }
 
-  pub run_taken : (next more : ℕ) → is_own space count (change_of change) ≡ true → next ≡ change.commit → (next ≡ run_commit → run_count < 2 ^ 32 - 1 → more ≡ run_count + 1)
-      → ((next ≡ run_commit → ⊥) → more ≡ 1) → RunsSoFar space count all (drop (i + 1) (map change_of changes)) next more
-  run_taken next more own_so at same other =
+  pub run_taken : (next more kept : ℕ) → is_own space count (change_of change) ≡ true → next ≡ change.commit → (next ≡ run_commit → run_count < 2 ^ 32 - 1 → more ≡ run_count + 1)
+      → ((next ≡ run_commit → ⊥) → more ≡ 1) → (next ≡ run_commit → kept ≡ run_whole) → ((next ≡ run_commit → ⊥) → kept ≡ max run_whole run_commit)
+      → RunsSoFar from space count all (drop (i + 1) (map change_of changes)) next more kept
+  run_taken next more kept own_so at same other same_whole other_whole =
       let tail : List Change = own space count (drop (i + 1) (map change_of changes)) in
       let parts : all ≡ so_far.laid ++ change_of change ∷ tail = so_far.parts ∙ ap (λ (l : List Change). so_far.laid ++ l) (own_one changes i change lt is space count own_so) in
       let shorter : run_count ≤ length so_far.laid = omega (arith, so_far.run.counts, within (λ (one : Change). one.commit == run_commit) so_far.laid) in
@@ -133,29 +162,51 @@ module _ (space count : ℕ) (changes : List Brought) (i : ℕ) (change : Brough
       record {
         laid = so_far.laid ++ change_of change ∷ [];
         parts = parts ∙ sym (append_assoc so_far.laid (change_of change ∷ []) tail);
-        run = run_more run_commit run_count next more so_far.laid (change_of change) so_far.run at (omega (arith, at, rest_rises.0)) (λ equal. same equal fits) other;
+        run = run_more from run_commit run_count run_whole next more kept so_far.laid (change_of change) so_far.run at (omega (arith, at, rest_rises.0)) (λ equal. same equal fits) other same_whole other_whole;
         rises = subst (λ (n : ℕ). Rises n (drop (i + 1) (map change_of changes))) (sym at) rest_rises.1;
       }
 
 -- where the work is cut
 
-pub part_same : (to commit count next : ℕ) (laid list : List Change) → IsRun commit count laid → Some next ≡ first_commit list → next ≡ commit → count ≡ (cut_by to laid list).part
-part_same to commit count next laid [] run first same = absurd cc
-part_same to commit count next laid (change ∷ list) run first same =
-    let at : next ≡ change.commit = cc in
-    run.counts ∙ ap (λ (n : ℕ). length (changes_by n laid)) (sym same ∙ at)
+module _ (from to commit count whole next : ℕ) (laid list : List Change) (run : IsRun from commit count whole laid) (first : Some next ≡ first_commit list) where
+  pub part_same : next ≡ commit → count ≡ (cut_by from to laid list).part
+  part_same same = by list first
+    where
+      by : (list : List Change) → Some next ≡ first_commit list → count ≡ (cut_by from to laid list).part
+      by [] is = absurd cc
+      by (change ∷ list) is =
+          let at : next ≡ change.commit = cc in
+          run.counts ∙ ap (λ (n : ℕ). length (changes_by n laid)) (sym same ∙ at)
 
-pub part_none : (to commit count next : ℕ) (laid list : List Change) → IsRun commit count laid → Some next ≡ first_commit list → commit ≤ next → (next ≡ commit → ⊥) → 0 ≡ (cut_by to laid list).part
-part_none to commit count next laid [] run first le other = absurd cc
-part_none to commit count next laid (change ∷ list) run first le other =
-    let at : next ≡ change.commit = cc in
-    let lt : commit < change.commit = omega (arith, at, le, other) in
-    sym (ap (λ (l : List Change). length l) (none_by commit change.commit laid lt run.before))
+  pub part_none : commit ≤ next → (next ≡ commit → ⊥) → 0 ≡ (cut_by from to laid list).part
+  part_none le other = by list first
+    where
+      by : (list : List Change) → Some next ≡ first_commit list → 0 ≡ (cut_by from to laid list).part
+      by [] is = absurd cc
+      by (change ∷ list) is =
+          let at : next ≡ change.commit = cc in
+          let lt : commit < change.commit = omega (arith, at, le, other) in
+          sym (ap (λ (l : List Change). length l) (none_by commit change.commit laid lt run.before))
 
-pub upto_is : (to next : ℕ) (laid list : List Change) → Some next ≡ first_commit list → next - 1 ≡ (cut_by to laid list).upto
-upto_is to next laid [] first = absurd cc
-upto_is to next laid (change ∷ list) first = let at : next ≡ change.commit = cc in ap (λ (n : ℕ). n - 1) at
+  pub upto_same : next ≡ commit → whole ≡ (cut_by from to laid list).upto
+  upto_same same = by list first
+    where
+      by : (list : List Change) → Some next ≡ first_commit list → whole ≡ (cut_by from to laid list).upto
+      by [] is = absurd cc
+      by (change ∷ list) is =
+          let at : next ≡ change.commit = cc in
+          run.earlier ∙ ap (λ (n : ℕ). last_commit from (changes_before n laid)) (sym same ∙ at)
 
-pub cut_end : (to : ℕ) (laid list : List Change) → None ≡ first_commit list → (to ≡ (cut_by to laid list).upto) × (0 ≡ (cut_by to laid list).part)
-cut_end to laid [] first = (refl, refl)
-cut_end to laid (change ∷ list) first = absurd cc
+  pub upto_whole : commit ≤ next → (next ≡ commit → ⊥) → max whole commit ≡ (cut_by from to laid list).upto
+  upto_whole le other = by list first
+    where
+      by : (list : List Change) → Some next ≡ first_commit list → max whole commit ≡ (cut_by from to laid list).upto
+      by [] is = absurd cc
+      by (change ∷ list) is =
+          let at : next ≡ change.commit = cc in
+          let lt : commit < change.commit = omega (arith, at, le, other) in
+          sym run.last ∙ sym (ap (last_commit from) (all_by commit change.commit laid lt run.before))
+
+pub cut_end : (from to : ℕ) (laid list : List Change) → None ≡ first_commit list → (to ≡ (cut_by from to laid list).upto) × (0 ≡ (cut_by from to laid list).part)
+cut_end from to laid [] first = (refl, refl)
+cut_end from to laid (change ∷ list) first = absurd cc

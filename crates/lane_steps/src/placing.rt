@@ -1,5 +1,5 @@
 //! The place of the mark behind changes that are laid.
-ghost use Rattle.std.specs.Prelude.{◌≡◌, ◌<◌, ◌^◌, ◌+◌, ◌-◌, ◌++◌, ℕ, List, [], length, map};
+ghost use Rattle.std.specs.Prelude.{◌≡◌, ◌<◌, ◌^◌, ◌+◌, ◌-◌, ◌++◌, ℕ, max, List, [], length, map};
 ghost use Rattle.log_history.specs.Effects.{Change as ChangeView};
 ghost use Rattle.txn_table.specs.Table.{change_of};
 ghost use Rattle.lane_ways.specs.Ways.{cut_by};
@@ -10,22 +10,25 @@ ghost use Rattle.lane_steps.specs.Runs.{IsRun, first_commit};
 use crate::choosing::is_own;
 use txn_table::Change;
 
-/// The commit of which changes were laid last, and how many of it into the space's own pages.
+/// The commit of which changes were laid last, how many of it into the space's own pages, and the position before it: that of
+/// the last commit that is laid whole, or that from which the work goes on.
 #[derive(Clone, Copy, Debug, PartialEq, Eq)]
 pub struct Run {
     commit: u64,
     count: u32,
+    whole: u64,
 }
 
 impl Run {
-    /// Nothing is laid.
-    pub fn new() -> Run
+    /// Nothing is laid behind a position.
+    pub fn new(from: u64) -> Run
         ensures commit { result.commit ≡ 0 }
-        ensures run { IsRun result.commit result.count [] }
+        ensures run { IsRun from result.commit result.count result.whole [] }
     {
         Run {
             commit: 0,
             count: 0,
+            whole: from,
         }
     }
 
@@ -34,22 +37,29 @@ impl Run {
         ensures commit { result.commit ≡ commit }
         ensures same { commit ≡ self.commit → self.count < 2 ^ 32 - 1 → result.count ≡ self.count + 1 }
         ensures other { (commit ≡ self.commit → ⊥) → result.count ≡ 1 }
+        ensures same_whole { commit ≡ self.commit → result.whole ≡ self.whole }
+        ensures other_whole { (commit ≡ self.commit → ⊥) → result.whole ≡ max self.whole self.commit }
     {
         if commit == self.commit {
             Run {
                 commit,
                 count: self.count.saturating_add(1),
+                whole: self.whole,
             }
         } else {
-            Run { commit, count: 1 }
+            Run {
+                commit,
+                count: 1,
+                whole: self.whole.max(self.commit),
+            }
         }
     }
 
     /// With these changes laid behind the others.
     pub fn with_laid(self, changes: &[Change], space: u16, count: u32) -> Run
-        ensures run { (laid : List ChangeView) → IsRun self.commit self.count laid → Rises self.commit (map change_of changes.now)
+        ensures run { (from : ℕ) (laid : List ChangeView) → IsRun from self.commit self.count self.whole laid → Rises self.commit (map change_of changes.now)
             → length (laid ++ own space count (map change_of changes.now)) < 2 ^ 32
-            → IsRun result.commit result.count (laid ++ own space count (map change_of changes.now)) }
+            → IsRun from result.commit result.count result.whole (laid ++ own space count (map change_of changes.now)) }
         // Its commit is none that others behind these could fall below.
         ensures onward { (rest : List ChangeView) → Rises self.commit (map change_of changes.now ++ rest) → Rises result.commit rest }
     {
@@ -64,15 +74,15 @@ impl Run {
 
     /// The place of the mark where these changes are left, on a way that leads to a position.
     pub fn place(self, left: &[Change], space: u16, count: u32, to: u64) -> (u64, u32)
-        ensures upto { (laid : List ChangeView)
-            → result.0 ≡ (cut_by to laid (own space count (map change_of left.now))).upto }
-        ensures part { (laid : List ChangeView) → IsRun self.commit self.count laid → Rises self.commit (map change_of left.now)
-            → result.1 ≡ (cut_by to laid (own space count (map change_of left.now))).part }
+        ensures upto { (from : ℕ) (laid : List ChangeView) → IsRun from self.commit self.count self.whole laid → Rises self.commit (map change_of left.now)
+            → result.0 ≡ (cut_by from to laid (own space count (map change_of left.now))).upto }
+        ensures part { (from : ℕ) (laid : List ChangeView) → IsRun from self.commit self.count self.whole laid → Rises self.commit (map change_of left.now)
+            → result.1 ≡ (cut_by from to laid (own space count (map change_of left.now))).part }
     {
         match next_commit(left, space, count) {
             None => (to, 0),
-            Some(next) if next == self.commit => (next.saturating_sub(1), self.count),
-            Some(next) => (next.saturating_sub(1), 0),
+            Some(next) if next == self.commit => (self.whole, self.count),
+            Some(_) => (self.whole.max(self.commit), 0),
         }
     }
 }

@@ -150,7 +150,7 @@ fn a_page_of_three_commits_takes_one_step(rt: HostRuntime) -> Result<(), Fail> {
     let era = Era::first();
     let changes = changes_of(alloc, &ROWS)?;
     let mut disk = MemDisk::new(alloc, &era, new_chunk(alloc)?);
-    let taken = one_step(&mut disk, &era, &changes, Run::new(), 20)?;
+    let taken = one_step(&mut disk, &era, &changes, Run::new(0), 20)?;
     assert_eq!(rt; taken, 6);
     assert_eq!(rt; disk.bytes_written(), 2 * 8192 + 4353);
     assert_eq!(rt;
@@ -165,10 +165,33 @@ fn a_page_of_three_commits_takes_one_step(rt: HostRuntime) -> Result<(), Fail> {
     let mut mark = Mark::new(4096);
     let place = load(&mut disk, &era, &mut mark)?;
     assert_eq!(rt; place, (20, 0));
-    let none = one_step(&mut disk, &era, &[], Run::new(), 23)?;
+    let none = one_step(&mut disk, &era, &[], Run::new(20), 23)?;
     assert_eq!(rt; none, 0);
     let place = load(&mut disk, &era, &mut mark)?;
     assert_eq!(rt; place, (23, 0));
+    Ok(())
+}
+
+// The place behind so many of the changes, on the way from position 3 to 20.
+fn place_behind(changes: &[Change], taken: usize) -> (u64, u32) {
+    let (taken, left) = changes.split_at(changes.len().min(taken));
+    Run::new(3)
+        .with_laid(taken, SPACE, COUNT)
+        .place(left, SPACE, COUNT, 20)
+}
+
+#[test]
+fn the_mark_names_the_last_commit_that_is_laid_whole(rt: HostRuntime) -> Result<(), Fail> {
+    let changes = changes_of(rt.alloc(), &ROWS)?;
+    for (taken, place) in [
+        (0, (3, 0)),
+        (1, (5, 0)),
+        (3, (9, 0)),
+        (5, (9, 1)),
+        (6, (20, 0)),
+    ] {
+        assert_eq!(rt; place_behind(&changes, taken), place, "behind {taken}");
+    }
     Ok(())
 }
 
@@ -204,7 +227,7 @@ fn left_after_stop(
     era.next();
     disk.stop_at(call, bytes);
     let (taken, left) = changes.split_at(changes.len().min(16));
-    let run = Run::new().with_laid(taken, SPACE, COUNT);
+    let run = Run::new(0).with_laid(taken, SPACE, COUNT);
     let _ = one_step(&mut disk, &era, left, run, 42);
     let choice = Choice {
         calls: u64::MAX,
@@ -232,7 +255,7 @@ fn a_stop_shows_the_place_before_a_step_or_behind_it(rt: HostRuntime) -> Result<
     let era = Era::first();
     let changes = all_pages(alloc)?;
     let mut disk = MemDisk::new(alloc, &era, new_chunk(alloc)?);
-    let taken = one_step(&mut disk, &era, &changes, Run::new(), 42)?;
+    let taken = one_step(&mut disk, &era, &changes, Run::new(0), 42)?;
     assert_eq!(rt; taken, 16);
     for call in [
         1, 19, 22, 24, 26, 28, 29, 43, 58, 60, 62, 64, 65, 66, 67, 68, 70,
@@ -247,14 +270,14 @@ fn a_stop_shows_the_place_before_a_step_or_behind_it(rt: HostRuntime) -> Result<
                 seed,
             )?;
             assert!(rt;
-                (place, stamped) == ((41, 16), 16) || (place, stamped) == ((41, 32), 32),
+                (place, stamped) == ((0, 16), 16) || (place, stamped) == ((0, 32), 32),
                 "{stamped} pages at {}, {} at call {call}, byte {bytes}, seed {seed}",
                 place.0,
                 place.1
             );
             // Within the first page's write and all others the mark is the one before.
-            assert!(rt; call > 59 || place == (41, 16), "call {call}");
-            assert!(rt; call < 70 || place == (41, 32), "call {call}");
+            assert!(rt; call > 59 || place == (0, 16), "call {call}");
+            assert!(rt; call < 70 || place == (0, 32), "call {call}");
         }
     }
     Ok(())

@@ -31,9 +31,9 @@ step_of limit left = (taken_from limit [] left).count
 abbrev pub step_pages : ℕ → List Change → List ℕ
 step_pages limit left = (taken_from limit [] left).pages
 
--- how many changes of a way are laid behind a step, and the place of the mark that stands behind it
+-- how many changes of a way are laid behind a step, and the place of the mark that stands behind it where the work goes on from a position
 abbrev pub laid_behind : ℕ → List Change → ℕ → ℕ
 laid_behind limit way laid = laid + step_of limit (drop laid way)
 
-abbrev pub place_behind : ℕ → List Change → (to laid : ℕ) → Place
-place_behind limit way to laid = cut way to (laid_behind limit way laid)
+abbrev pub place_behind : (from limit : ℕ) → List Change → (to laid : ℕ) → Place
+place_behind from limit way to laid = cut from way to (laid_behind limit way laid)

@@ -187,7 +187,7 @@ pages_same history more space upto part pages none place =
 abbrev pub IsIdle : List Change → ℕ → ℕ → Type 0
 IsIdle way a b = filter (λ (change : Change). nat_lt a change.commit && nat_le change.commit b) way ≡ []
 
-idle_both : (way : List Change) (a b : ℕ) → a ≤ b → IsIdle way a b → (changes_up_to a way ≡ changes_up_to b way) × (changes_behind a way ≡ changes_behind b way)
+pub idle_both : (way : List Change) (a b : ℕ) → a ≤ b → IsIdle way a b → (changes_up_to a way ≡ changes_up_to b way) × (changes_behind a way ≡ changes_behind b way)
 idle_both [] a b le idle = (refl, refl)
 idle_both (x ∷ way) a b le idle = by (nat_lt a x.commit && nat_le x.commit b) refl idle (idle_both way a b le)
   where

@@ -1,5 +1,5 @@
 -- The way of a lane, and the places on it.
-use Rattle.std.specs.Prelude.{◌≡◌, ℕ, suc, ◌+◌, ◌-◌, ◌==◌, ◌≤◌, List, [], ◌∷◌, length, filter, fold, take, drop, true, nat_le, nat_lt, if◌then◌else◌}
+use Rattle.std.specs.Prelude.{◌≡◌, ℕ, suc, ◌+◌, ◌==◌, ◌≤◌, max, List, [], ◌∷◌, length, filter, fold, take, drop, true, nat_le, nat_lt, if◌then◌else◌}
 use Rattle.log_history.specs.History.{History}
 use Rattle.log_history.specs.Live.{live}
 use Rattle.log_history.specs.Effects.{Change, Page, changes, empty_page, with_change}
@@ -15,6 +15,10 @@ changes_up_to upto list = filter (λ change. nat_le change.commit upto) list
 
 abbrev pub changes_behind : ℕ → List Change → List Change
 changes_behind upto list = filter (λ change. nat_lt upto change.commit) list
+
+-- those of commits before a position
+abbrev pub changes_before : ℕ → List Change → List Change
+changes_before commit list = filter (λ change. nat_lt change.commit commit) list
 
 -- those of one commit
 abbrev pub changes_by : ℕ → List Change → List Change
@@ -60,15 +64,20 @@ pub record Place : Type 0 where
   pub upto : ℕ
   pub part : ℕ
 
--- Where the work is cut: just before the next commit that writes into the space, and of that commit's Writes those that are laid; at the
--- end of the way the position that it leads to.
-abbrev pub cut_by : ℕ → List Change → List Change → Place
-cut_by to laid [] = record { upto = to; part = 0 }
-cut_by to laid (next ∷ rest) = record { upto = next.commit - 1; part = length (changes_by next.commit laid) }
+-- the last commit that any of them is of, or a position where none is behind it
+abbrev pub last_commit : ℕ → List Change → ℕ
+last_commit from [] = from
+last_commit from (change ∷ list) = last_commit (max from change.commit) list
+
+-- Where the work is cut that goes on from a position: at the last commit that is laid whole, but never before that position, and of the
+-- next commit's Writes those that are laid; at the end of the way the position that it leads to.
+abbrev pub cut_by : (from to : ℕ) → List Change → List Change → Place
+cut_by from to laid [] = record { upto = to; part = 0 }
+cut_by from to laid (next ∷ rest) = record { upto = last_commit from (changes_before next.commit laid); part = length (changes_by next.commit laid) }
 
 -- the cut behind the first changes of a way
-abbrev pub cut : List Change → (to count : ℕ) → Place
-cut way to count = cut_by to (take count way) (drop count way)
+abbrev pub cut : (from : ℕ) → List Change → (to count : ℕ) → Place
+cut from way to count = cut_by from to (take count way) (drop count way)
 
 -- a place isn't before another: the one position is behind the other's, or they are the same and so many more Writes are laid
 abbrev pub IsNotBefore : (upto part further more : ℕ) → Type 0

@@ -59,22 +59,23 @@ pub fn a_place_lies_on_the_way()
         → laid_at (lane_changes history n space) upto part ≤ length (lane_changes history n space) }
 {}
 
-/// The cut behind so many changes is a place on the way, and lays exactly so many.
+/// The cut behind so many changes is a place on the way, and lays exactly so many, where the work goes on from a live position.
 pub fn a_cut_is_a_place()
-    ensures place { (history : History) (n space count : ℕ)
-        → IsPlace history n space (cut (lane_changes history n space) n count).upto (cut (lane_changes history n space) n count).part }
-    ensures lays { (history : History) (n space count : ℕ) → count ≤ length (lane_changes history n space)
-        → laid_at (lane_changes history n space) (cut (lane_changes history n space) n count).upto (cut (lane_changes history n space) n count).part ≡ count }
+    ensures place { (history : History) (n space from count : ℕ) → live history n from ≡ true → laid_at (lane_changes history n space) from 0 ≤ count
+        → IsPlace history n space (cut from (lane_changes history n space) n count).upto (cut from (lane_changes history n space) n count).part }
+    ensures lays { (history : History) (n space from count : ℕ) → live history n from ≡ true → laid_at (lane_changes history n space) from 0 ≤ count
+        → count ≤ length (lane_changes history n space)
+        → laid_at (lane_changes history n space) (cut from (lane_changes history n space) n count).upto (cut from (lane_changes history n space) n count).part ≡ count }
 {}
 
-/// A cut that lays at least as much as a place isn't before it, and one that lays more is another place.
+/// A cut of work that goes on from a place isn't before it, and one that lays more than a place is another place.
 pub fn cuts_are_in_order()
     ensures not_before { (history : History) (n space upto part count : ℕ) → IsPlace history n space upto part
         → laid_at (lane_changes history n space) upto part ≤ count → count ≤ length (lane_changes history n space)
-        → IsNotBefore upto part (cut (lane_changes history n space) n count).upto (cut (lane_changes history n space) n count).part }
-    ensures differs { (history : History) (n space upto part count : ℕ) → laid_at (lane_changes history n space) upto part < count
-        → count ≤ length (lane_changes history n space)
-        → (cut (lane_changes history n space) n count).upto ≡ upto → (cut (lane_changes history n space) n count).part ≡ part → ⊥ }
+        → IsNotBefore upto part (cut upto (lane_changes history n space) n count).upto (cut upto (lane_changes history n space) n count).part }
+    ensures differs { (history : History) (n space from upto part count : ℕ) → live history n from ≡ true → laid_at (lane_changes history n space) from 0 ≤ count
+        → laid_at (lane_changes history n space) upto part < count → count ≤ length (lane_changes history n space)
+        → (cut from (lane_changes history n space) n count).upto ≡ upto → (cut from (lane_changes history n space) n count).part ≡ part → ⊥ }
 {}
 
 /// What is handed over of a way behind a place, but for the Writes that are laid, is what the way still has; and its cuts are the way's.
@@ -82,15 +83,15 @@ pub fn the_rest_is_what_lies_behind()
     ensures rest { (history : History) (n space upto part : ℕ)
         → drop (laid_at (lane_changes history n space) upto part) (lane_changes history n space) ≡ drop part (changes_behind upto (lane_changes history n space)) }
     ensures cuts { (history : History) (n space upto count : ℕ)
-        → cut (lane_changes history n space) n (laid_at (lane_changes history n space) upto count) ≡ cut (changes_behind upto (lane_changes history n space)) n count }
+        → cut upto (lane_changes history n space) n (laid_at (lane_changes history n space) upto count) ≡ cut upto (changes_behind upto (lane_changes history n space)) n count }
 {}
 
 /// With all laid the cut is the position that the way leads to, and before that it stands before that position.
 pub fn the_way_ends_where_it_leads()
-    ensures end { (history : History) (n space count : ℕ) → length (lane_changes history n space) ≤ count
-        → cut (lane_changes history n space) n count ≡ record { upto = n; part = 0 } }
-    ensures before { (history : History) (n space count : ℕ) → count < length (lane_changes history n space)
-        → (cut (lane_changes history n space) n count).upto < n }
+    ensures end { (history : History) (n space from count : ℕ) → length (lane_changes history n space) ≤ count
+        → cut from (lane_changes history n space) n count ≡ record { upto = n; part = 0 } }
+    ensures before { (history : History) (n space from count : ℕ) → laid_at (lane_changes history n space) from 0 ≤ count
+        → count < length (lane_changes history n space) → (cut from (lane_changes history n space) n count).upto < n }
 {}
 
 /// A step takes changes at the front of those that are left, of at most so many distinct pages: all of them, or of exactly so many pages;
@@ -122,7 +123,7 @@ pub fn changes_bring_their_pages_further()
 pub fn behind_a_step_stands_its_place()
     ensures { (history : History) (n space limit upto part : ℕ) → 1 ≤ limit
         → laid_at (lane_changes history n space) upto part ≤ length (lane_changes history n space) → IsPlace history n space upto part
-        → IsBehindStep history n space limit upto part (place_behind limit (lane_changes history n space) n (laid_at (lane_changes history n space) upto part)) }
+        → IsBehindStep history n space limit upto part (place_behind upto limit (lane_changes history n space) n (laid_at (lane_changes history n space) upto part)) }
 {}
 
 /// While pages that stand are saved for the place of a chunk, and while they are written then, it shows what it did; and where the mark of

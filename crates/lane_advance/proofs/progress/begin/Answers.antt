@@ -33,5 +33,5 @@ returns-clause-under_way c history n to leads =
     under_way_first history n space count to c.args.upto part list leads start more run (c.passed-start.ensures.behind leads.rises)
     (subst (λ (l : List Change). own space count (take more l) ≡ take part (own space count l)) is c.laid-more.ensures.front)
     (subst (λ (l : List Change). own space count (drop more l) ≡ drop part (own space count l)) is c.laid-more.ensures.behind)
-    (subst (λ (l : List Change). IsRun run.commit run.count (own space count l)) front_is (c.with_laid.ensures.run [] c.new.ensures.run rises_so few))
+    (subst (λ (l : List Change). IsRun c.args.upto run.commit run.count run.whole (own space count l)) front_is (c.with_laid.ensures.run c.args.upto [] c.new.ensures.run rises_so few))
     (c.with_laid.ensures.onward (drop more behind) (subst (λ (l : List Change). Rises low (l ++ drop more behind)) (sym front_is) rises))

@@ -19,17 +19,18 @@ loop-change-preserved c =
     let change = c.change-item.result in
     let low = c.loop-change.run.commit in
     record {
-      run = λ laid run rises few.
+      run = λ from laid run rises few.
           let all = laid ++ own c.args.space c.args.count list in
-          let so_far = c.loop-change.invariant.run laid run rises few in
-          let goes = λ (r : Run). RunsSoFar c.args.space c.args.count all (drop (i + 1) list) r.commit r.count in
+          let so_far = c.loop-change.invariant.run from laid run rises few in
+          let goes = λ (r : Run). RunsSoFar from c.args.space c.args.count all (drop (i + 1) list) r.commit r.count r.whole in
           elim c.if-is_own.branch [
             | then-is_own w ↦ subst goes (sym w.run-is)
-                (run_taken c.args.space c.args.count c.args.changes.now i change lt is all few low c.loop-change.run.count so_far
-                w.and_one-run.result.commit w.and_one-run.result.count (sym c.is_own.ensures ∙ w.if-is_own.true) w.and_one-run.ensures.commit
-                (λ same. w.and_one-run.ensures.same (sym w.and_one-run.ensures.commit ∙ same)) (λ differs. w.and_one-run.ensures.other (λ same. differs (w.and_one-run.ensures.commit ∙ same))))
+                (run_taken from c.args.space c.args.count c.args.changes.now i change lt is all few low c.loop-change.run.count c.loop-change.run.whole so_far
+                w.and_one-run.result.commit w.and_one-run.result.count w.and_one-run.result.whole (sym c.is_own.ensures ∙ w.if-is_own.true) w.and_one-run.ensures.commit
+                (λ same. w.and_one-run.ensures.same (sym w.and_one-run.ensures.commit ∙ same)) (λ differs. w.and_one-run.ensures.other (λ same. differs (w.and_one-run.ensures.commit ∙ same)))
+                (λ same. w.and_one-run.ensures.same_whole (sym w.and_one-run.ensures.commit ∙ same)) (λ differs. w.and_one-run.ensures.other_whole (λ same. differs (w.and_one-run.ensures.commit ∙ same))))
             | else-is_own w ↦ subst goes (sym w.run-is)
-                (run_passed c.args.space c.args.count c.args.changes.now i change lt is all few low c.loop-change.run.count so_far
+                (run_passed from c.args.space c.args.count c.args.changes.now i change lt is all few low c.loop-change.run.count c.loop-change.run.whole so_far
                 (sym c.is_own.ensures ∙ w.if-is_own.false))
           ];
       onward = λ rest rises.
