@@ -32,7 +32,7 @@ use Rattle.site_commands.specs.Commands.{CutsShort, HasDone, IsPassed, Passes, S
 use Rattle.site_commands.specs.Runs.{CommandResult, refused_by, run_form, show_text, site_behind, status_of}
 use Rattle.site_openings.specs.Openings.{DisksRefuse}
 use Rattle.site_core.specs.declared.faults.SiteFault.{SiteFault}
-use Rattle.site_core.specs.declared.faults.SiteFault.TheVariants.{OutOfMemory, DiskFault, NotFormatted as NoSite, AlreadyFormatted, BadRecord, NeedsRestart, NoSuchSpace, NoSuchPage, ChunkLost, LogLost, LogFull}
+use Rattle.site_core.specs.declared.faults.SiteFault.TheVariants.{OutOfMemory, DiskFault, NotFormatted as NoSite, AlreadyFormatted, BadRecord, NeedsRestart, NoSuchSpace, NoSuchPage, ChunkLost, LogLost, LogFull, StoreFull, CatalogueFull, TooManyObjects, BootFull}
 use Rattle.site_core.specs.declared.site.Site.{Site as Values}
 use Rattle.site_core.specs.Disks.{contents_of, images_of}
 use Rattle.site_core.specs.Faults.{IsFailure, fault_in, status_in}
@@ -62,6 +62,10 @@ failure_cuts (NoSuchPage page) is = absurd is
 failure_cuts (ChunkLost space name) is = absurd is
 failure_cuts LogLost is = absurd is
 failure_cuts (LogFull why) is = absurd is
+failure_cuts (StoreFull volume) is = absurd is
+failure_cuts CatalogueFull is = absurd is
+failure_cuts TooManyObjects is = absurd is
+failure_cuts BootFull is = absurd is
 
 module _ {D : Type 0} (disk : Ghosts D) (name : List ℕ) (page : Option ℕ) (from : ℕ) (old : Values D) where
   abbrev start : Start
@@ -297,3 +301,7 @@ reading_kind (NoSuchPage page) is = absurd is
 reading_kind (ChunkLost space name) is = absurd is
 reading_kind LogLost is = absurd is
 reading_kind (LogFull why) is = absurd is
+reading_kind (StoreFull volume) is = absurd is
+reading_kind CatalogueFull is = absurd is
+reading_kind TooManyObjects is = absurd is
+reading_kind BootFull is = absurd is

@@ -14,7 +14,7 @@ use Rattle.site_worlds.specs.Moves.{Move, move_lanes, site_rules}
 use Rattle.site_courses.specs.Faults.{Fault, needs_restart, no_such_space, no_such_page, log_lost, chunk_lost}
 use Rattle.site_courses.specs.Courses.{SiteCourse, check, if_active, if_log_lost, if_no_ring, in_turn}
 use Rattle.site_core.specs.declared.faults.SiteFault.{SiteFault}
-use Rattle.site_core.specs.declared.faults.SiteFault.TheVariants.{OutOfMemory, DiskFault, NotFormatted, AlreadyFormatted, BadRecord, NeedsRestart, NoSuchSpace, NoSuchPage, ChunkLost, LogLost, LogFull}
+use Rattle.site_core.specs.declared.faults.SiteFault.TheVariants.{OutOfMemory, DiskFault, NotFormatted, AlreadyFormatted, BadRecord, NeedsRestart, NoSuchSpace, NoSuchPage, ChunkLost, LogLost, LogFull, StoreFull, CatalogueFull, TooManyObjects, BootFull}
 use Rattle.site_core.specs.Faults.{IsNamed, fault_in, status_in}
 use Rattle.site_commands.specs.Runs.{status_in as status_of_refusal}
 use Rattle.onbar_grammar.specs.Script.{Space, place_of}
@@ -148,6 +148,10 @@ of_fault spaces (NoSuchPage page) is named = record { status = refl }
 of_fault spaces (ChunkLost space name) is named = record { status = ap Lost (sym named) }
 of_fault spaces LogLost is named = record { status = refl }
 of_fault spaces (LogFull why) is named = absurd is
+of_fault spaces (StoreFull volume) is named = absurd is
+of_fault spaces CatalogueFull is named = absurd is
+of_fault spaces TooManyObjects is named = absurd is
+of_fault spaces BootFull is named = absurd is
 
 pub tells_refusal : (name : List ℕ) (page : Option ℕ) (site : Site) (fault : SiteFault) → if_refused name page site ≡ Some (fault_in fault) → IsNamed site.head.spaces fault
     → TellsRefusal site.head.spaces fault

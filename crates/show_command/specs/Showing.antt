@@ -19,7 +19,7 @@ use Rattle.site_courses.specs.Courses.{if_active, if_log_lost, if_no_page, if_th
 use Rattle.site_layouts.specs.Stages.{HeldSite, ShowsHeld, StandsFor}
 use Rattle.site_openings.specs.Openings.{Check, no_restore, shown_place}
 use Rattle.site_core.specs.declared.faults.SiteFault.{SiteFault}
-use Rattle.site_core.specs.declared.faults.SiteFault.TheVariants.{OutOfMemory, DiskFault, NotFormatted, AlreadyFormatted, BadRecord, NeedsRestart, NoSuchSpace, NoSuchPage, ChunkLost, LogLost, LogFull}
+use Rattle.site_core.specs.declared.faults.SiteFault.TheVariants.{OutOfMemory, DiskFault, NotFormatted, AlreadyFormatted, BadRecord, NeedsRestart, NoSuchSpace, NoSuchPage, ChunkLost, LogLost, LogFull, StoreFull, CatalogueFull, TooManyObjects, BootFull}
 use Rattle.lane_texts.specs.declared.faults.ListFault.{ListFault}
 use Rattle.lane_texts.specs.declared.faults.ListFault.TheVariants.{OutOfMemory as NoMemory, Failed, BadPage}
 use Rattle.walks.specs.Follows.{Ends}
@@ -162,6 +162,10 @@ IsReadingFault (NoSuchPage page) = ⊥
 IsReadingFault (ChunkLost space name) = ⊥
 IsReadingFault LogLost = ⊥
 IsReadingFault (LogFull why) = ⊥
+IsReadingFault (StoreFull volume) = ⊥
+IsReadingFault CatalogueFull = ⊥
+IsReadingFault TooManyObjects = ⊥
+IsReadingFault BootFull = ⊥
 
 -- the lane came to the end, and this is its text
 pub record IsTold {D : Type 0} (disk : Ghosts D) (name : List ℕ) (page : Option ℕ) (to : ℕ) (place : Place) (at : HeldSite) (old new : Values D) (told : List ℕ) : Type 0 where

@@ -14,7 +14,7 @@ use Rattle.site_core.specs.Checkpoints.{IsCheckpointFault, of_held}
 use Rattle.site_core.specs.Faults.{FailsOnLog}
 use Rattle.site_core.specs.Going.{FailsOnLane}
 use Rattle.site_core.specs.declared.faults.SiteFault.{SiteFault}
-use Rattle.site_core.specs.declared.faults.SiteFault.TheVariants.{OutOfMemory, DiskFault, NotFormatted, AlreadyFormatted, BadRecord, NeedsRestart, NoSuchSpace, NoSuchPage, ChunkLost, LogLost, LogFull}
+use Rattle.site_core.specs.declared.faults.SiteFault.TheVariants.{OutOfMemory, DiskFault, NotFormatted, AlreadyFormatted, BadRecord, NeedsRestart, NoSuchSpace, NoSuchPage, ChunkLost, LogLost, LogFull, StoreFull, CatalogueFull, TooManyObjects, BootFull}
 
 -- what holds of each fault holds of the one that is answered
 pub each_err : {A : Type 0} (P Q : SiteFault → Type 0) (result : Result A SiteFault) → ((fault : SiteFault) → P fault → Q fault) → IfErr result P → IfErr result Q
@@ -56,6 +56,10 @@ lane_checks disk count old new (NoSuchPage page) fails = absurd fails
 lane_checks disk count old new (ChunkLost space name) fails = absurd fails
 lane_checks disk count old new LogLost fails = absurd fails
 lane_checks disk count old new (LogFull why) fails = absurd fails
+lane_checks disk count old new (StoreFull volume) fails = absurd fails
+lane_checks disk count old new CatalogueFull fails = absurd fails
+lane_checks disk count old new TooManyObjects fails = absurd fails
+lane_checks disk count old new BootFull fails = absurd fails
 
 -- of the log
 
@@ -71,6 +75,10 @@ log_checks before now (NoSuchPage page) fails = absurd fails
 log_checks before now (ChunkLost space name) fails = absurd fails
 log_checks before now LogLost fails = absurd fails
 log_checks before now (LogFull why) fails = absurd fails
+log_checks before now (StoreFull volume) fails = absurd fails
+log_checks before now CatalogueFull fails = absurd fails
+log_checks before now TooManyObjects fails = absurd fails
+log_checks before now BootFull fails = absurd fails
 
 pub log_named : (before now : ℕ) (name : DiskName) → FailsOnLog before now (DiskFault name) → (Log ≡ name) × Rose before now
 log_named before now Log fails = (refl, fails)
@@ -94,6 +102,10 @@ checks_append (NoSuchPage page) is = is
 checks_append (ChunkLost space name) is = is
 checks_append LogLost is = is
 checks_append (LogFull why) is = absurd is
+checks_append (StoreFull volume) is = is
+checks_append CatalogueFull is = is
+checks_append TooManyObjects is = is
+checks_append BootFull is = is
 
 -- the fault that is answered is the one that came
 pub same_fault : {A : Type 0} (result : Result A SiteFault) (told fault other : SiteFault) → result ≡ Err told → told ≡ fault → IsErrOf result other → fault ≡ other

@@ -10,7 +10,7 @@ use Rattle.site_worlds.specs.Worlds.{Site}
 use Rattle.site_worlds.specs.Allowed.{IsNoReset, HasRing}
 use Rattle.site_courses.specs.Courses.{if_any_lost}
 use Rattle.site_core.specs.declared.faults.SiteFault.{SiteFault}
-use Rattle.site_core.specs.declared.faults.SiteFault.TheVariants.{OutOfMemory, DiskFault, NotFormatted, AlreadyFormatted, BadRecord, NeedsRestart, NoSuchSpace, NoSuchPage, ChunkLost, LogLost, LogFull}
+use Rattle.site_core.specs.declared.faults.SiteFault.TheVariants.{OutOfMemory, DiskFault, NotFormatted, AlreadyFormatted, BadRecord, NeedsRestart, NoSuchSpace, NoSuchPage, ChunkLost, LogLost, LogFull, StoreFull, CatalogueFull, TooManyObjects, BootFull}
 
 -- With no restore under way, its log there and none of its so many lanes lost, records in order that are no Resets, into pages that the site
 -- has; the oldest Begin that is open before them is known.
@@ -37,3 +37,7 @@ IsAppendFault (NoSuchSpace name) = ⊥
 IsAppendFault (NoSuchPage page) = ⊥
 IsAppendFault (ChunkLost space name) = ⊥
 IsAppendFault LogLost = ⊥
+IsAppendFault (StoreFull volume) = ⊥
+IsAppendFault CatalogueFull = ⊥
+IsAppendFault TooManyObjects = ⊥
+IsAppendFault BootFull = ⊥

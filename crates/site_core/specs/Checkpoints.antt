@@ -10,7 +10,7 @@ use Rattle.site_core.specs.Appending.{TakesBatch}
 use Rattle.held_log.specs.declared.faults.HeldFault.{HeldFault}
 use Rattle.held_log.specs.declared.faults.HeldFault.TheVariants.{OutOfMemory as NoMemory, Failed, BadRecord as BadSlot}
 use Rattle.site_core.specs.declared.faults.SiteFault.{SiteFault}
-use Rattle.site_core.specs.declared.faults.SiteFault.TheVariants.{OutOfMemory, DiskFault, NotFormatted, AlreadyFormatted, BadRecord, NeedsRestart, NoSuchSpace, NoSuchPage, ChunkLost, LogLost, LogFull}
+use Rattle.site_core.specs.declared.faults.SiteFault.TheVariants.{OutOfMemory, DiskFault, NotFormatted, AlreadyFormatted, BadRecord, NeedsRestart, NoSuchSpace, NoSuchPage, ChunkLost, LogLost, LogFull, StoreFull, CatalogueFull, TooManyObjects, BootFull}
 
 -- so many lanes, none of them lost, with no restore under way and the log there
 pub record MayGo (spaces : ℕ) (site : Site) : Type 0 where
@@ -43,3 +43,7 @@ IsCheckpointFault (NoSuchPage page) = ⊥
 IsCheckpointFault (ChunkLost space name) = ⊥
 IsCheckpointFault LogLost = ⊥
 IsCheckpointFault (LogFull why) = ⊥
+IsCheckpointFault (StoreFull volume) = ⊥
+IsCheckpointFault CatalogueFull = ⊥
+IsCheckpointFault TooManyObjects = ⊥
+IsCheckpointFault BootFull = ⊥

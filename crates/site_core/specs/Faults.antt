@@ -11,10 +11,10 @@ use Rattle.site_lanes.specs.declared.refusals.LanesFault.TheVariants.{ChunkLost 
 use Rattle.site_model.specs.Runs.{name_at}
 use Rattle.site_model.specs.declared.disk_name.DiskName.TheVariants.{Log, Chunk}
 use Rattle.site_model.specs.declared.status.Status.{Status}
-use Rattle.site_model.specs.declared.status.Status.TheVariants.{OutOfMemory as EndsOutOfMemory, DiskFault as EndsDiskFault, NotFormatted as EndsNotFormatted, AlreadyFormatted as EndsAlreadyFormatted, BadRecord as EndsBadRecord, NeedsRestart as EndsNeedsRestart, NoSuchSpace as EndsNoSuchSpace, NoSuchPage as EndsNoSuchPage, ChunkLost as EndsChunkLost, LogLost as EndsLogLost, LogFull as EndsLogFull}
-use Rattle.site_courses.specs.Faults.{Fault, LogFull, not_backed_up, needed_by, no_position, not_formatted, already_formatted, needs_restart, no_such_space, no_such_page, log_lost, chunk_lost, log_full, bad_record, cut_short}
+use Rattle.site_model.specs.declared.status.Status.TheVariants.{OutOfMemory as EndsOutOfMemory, DiskFault as EndsDiskFault, NotFormatted as EndsNotFormatted, AlreadyFormatted as EndsAlreadyFormatted, BadRecord as EndsBadRecord, NeedsRestart as EndsNeedsRestart, NoSuchSpace as EndsNoSuchSpace, NoSuchPage as EndsNoSuchPage, ChunkLost as EndsChunkLost, LogLost as EndsLogLost, LogFull as EndsLogFull, StoreFull as EndsStoreFull, CatalogueFull as EndsCatalogueFull, TooManyObjects as EndsTooManyObjects, BootFull as EndsBootFull}
+use Rattle.site_courses.specs.Faults.{Fault, LogFull, not_backed_up, needed_by, no_position, not_formatted, already_formatted, needs_restart, no_such_space, no_such_page, log_lost, chunk_lost, log_full, store_full, catalogue_full, too_many_objects, boot_full, bad_record, cut_short}
 use Rattle.site_core.specs.declared.faults.SiteFault.{SiteFault}
-use Rattle.site_core.specs.declared.faults.SiteFault.TheVariants.{OutOfMemory, DiskFault, NotFormatted, AlreadyFormatted, BadRecord, NeedsRestart, NoSuchSpace, NoSuchPage, ChunkLost, LogLost, LogFull as FullLog}
+use Rattle.site_core.specs.declared.faults.SiteFault.TheVariants.{OutOfMemory, DiskFault, NotFormatted, AlreadyFormatted, BadRecord, NeedsRestart, NoSuchSpace, NoSuchPage, ChunkLost, LogLost, LogFull as FullLog, StoreFull, CatalogueFull, TooManyObjects, BootFull}
 
 -- why the log takes no records, as courses have it
 abbrev pub full_of : RoomFull → LogFull
@@ -35,6 +35,10 @@ fault_in (NoSuchPage page) = no_such_page page
 fault_in (ChunkLost space name) = chunk_lost space
 fault_in LogLost = log_lost
 fault_in (FullLog why) = log_full (full_of why)
+fault_in (StoreFull volume) = store_full volume
+fault_in CatalogueFull = catalogue_full
+fault_in TooManyObjects = too_many_objects
+fault_in BootFull = boot_full
 
 abbrev pub fault_of : {A : Type 0} → Result A SiteFault → Option Fault
 fault_of (Ok a) = None
@@ -72,6 +76,10 @@ status_in (NoSuchPage page) = EndsNoSuchPage page
 status_in (ChunkLost space name) = EndsChunkLost name
 status_in LogLost = EndsLogLost
 status_in (FullLog why) = EndsLogFull why
+status_in (StoreFull volume) = EndsStoreFull volume
+status_in CatalogueFull = EndsCatalogueFull
+status_in TooManyObjects = EndsTooManyObjects
+status_in BootFull = EndsBootFull
 
 -- a lost chunk is named as the space is at its place
 abbrev pub IsNamed : List Space → SiteFault → Type 0
@@ -91,6 +99,10 @@ IsFailure (NoSuchPage page) = ⊥
 IsFailure (ChunkLost space name) = ⊥
 IsFailure LogLost = ⊥
 IsFailure (FullLog why) = ⊥
+IsFailure (StoreFull volume) = ⊥
+IsFailure CatalogueFull = ⊥
+IsFailure TooManyObjects = ⊥
+IsFailure BootFull = ⊥
 
 -- no disk failed
 abbrev pub IsNoDiskFault : SiteFault → Type 0
@@ -105,3 +117,7 @@ IsNoDiskFault (NoSuchPage page) = Unit {0}
 IsNoDiskFault (ChunkLost space name) = Unit {0}
 IsNoDiskFault LogLost = Unit {0}
 IsNoDiskFault (FullLog why) = Unit {0}
+IsNoDiskFault (StoreFull volume) = Unit {0}
+IsNoDiskFault CatalogueFull = Unit {0}
+IsNoDiskFault TooManyObjects = Unit {0}
+IsNoDiskFault BootFull = Unit {0}

@@ -14,7 +14,7 @@ use Rattle.site_lane_laws.specs.PhaseLaws.{CanGo}
 use Rattle.site_core.specs.declared.site.Site.{Site as Values}
 use Rattle.site_core.specs.Layers.{layers}
 use Rattle.site_core.specs.declared.faults.SiteFault.{SiteFault}
-use Rattle.site_core.specs.declared.faults.SiteFault.TheVariants.{OutOfMemory, DiskFault, NotFormatted, AlreadyFormatted, BadRecord, NeedsRestart, NoSuchSpace, NoSuchPage, ChunkLost, LogLost, LogFull}
+use Rattle.site_core.specs.declared.faults.SiteFault.TheVariants.{OutOfMemory, DiskFault, NotFormatted, AlreadyFormatted, BadRecord, NeedsRestart, NoSuchSpace, NoSuchPage, ChunkLost, LogLost, LogFull, StoreFull, CatalogueFull, TooManyObjects, BootFull}
 
 -- so many lanes, to the position at which the log ends, by changes
 pub record GoTo (spaces to : ℕ) (changes : List Change) (site : Site) : Type 0 where
@@ -61,3 +61,7 @@ module _ {D : Type 0} (disk : Ghosts D) (count : ℕ) (old new : List (Lane D)) 
   FailsOnLane (ChunkLost space name) = ⊥
   FailsOnLane LogLost = ⊥
   FailsOnLane (LogFull why) = ⊥
+  FailsOnLane (StoreFull volume) = ⊥
+  FailsOnLane CatalogueFull = ⊥
+  FailsOnLane TooManyObjects = ⊥
+  FailsOnLane BootFull = ⊥

@@ -31,6 +31,14 @@ pub enum SiteFault {
     ChunkLost { space: u16, name: Text<19> },
     LogLost,
     LogFull(LogFull),
+    /// This volume lacks free blocks.
+    StoreFull(u16),
+    /// The catalogue lacks free slots.
+    CatalogueFull,
+    /// The catalogue has no room for so many objects, or no copy ids are left.
+    TooManyObjects,
+    /// The boot file lacks free slots.
+    BootFull,
 }
 
 impl From<LogFault> for SiteFault {
@@ -131,6 +139,10 @@ impl From<SiteFault> for Status {
             SiteFault::ChunkLost { space: _, name } => Status::ChunkLost(name),
             SiteFault::LogLost => Status::LogLost,
             SiteFault::LogFull(why) => Status::LogFull(why),
+            SiteFault::StoreFull(volume) => Status::StoreFull(volume),
+            SiteFault::CatalogueFull => Status::CatalogueFull,
+            SiteFault::TooManyObjects => Status::TooManyObjects,
+            SiteFault::BootFull => Status::BootFull,
         }
     }
 }

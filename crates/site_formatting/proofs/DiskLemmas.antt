@@ -22,7 +22,7 @@ use Rattle.object_volume.specs.declared.volume.Volume.{Volume}
 use Rattle.site_model.specs.declared.disk_name.DiskName.{DiskName}
 use Rattle.site_model.specs.declared.disk_name.DiskName.TheVariants.{Cat, Spare, Boot, Log, Volume as OfVolume, Chunk}
 use Rattle.site_core.specs.declared.faults.SiteFault.{SiteFault}
-use Rattle.site_core.specs.declared.faults.SiteFault.TheVariants.{OutOfMemory, DiskFault, NotFormatted, AlreadyFormatted, BadRecord, NeedsRestart, NoSuchSpace, NoSuchPage, ChunkLost, LogLost, LogFull}
+use Rattle.site_core.specs.declared.faults.SiteFault.TheVariants.{OutOfMemory, DiskFault, NotFormatted, AlreadyFormatted, BadRecord, NeedsRestart, NoSuchSpace, NoSuchPage, ChunkLost, LogLost, LogFull, StoreFull, CatalogueFull, TooManyObjects, BootFull}
 use Rattle.site_core.specs.declared.site.Site.{Site}
 use Rattle.site_core.specs.Disks.{disk_named, faults_on, faults_or, may_or, MayUseAll, image_or, images_of}
 use Rattle.site_formatting.specs.Steps.{Both}
@@ -155,6 +155,10 @@ module _ {D : Type 0} where
     cause_since era head old mid new each (ChunkLost space name) has = has
     cause_since era head old mid new each LogLost has = has
     cause_since era head old mid new each (LogFull why) has = has
+    cause_since era head old mid new each (StoreFull volume) has = has
+    cause_since era head old mid new each CatalogueFull has = has
+    cause_since era head old mid new each TooManyObjects has = has
+    cause_since era head old mid new each BootFull has = has
 
     -- a fault of the store
     pub store_cause : (old new : Site D) (fault : StoreFault) → IsDiskFault fault → HasRisen disk.ledger old.store new.store fault → HasCauseOn disk old new (fault_of_store fault)

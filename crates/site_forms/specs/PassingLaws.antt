@@ -25,7 +25,7 @@ use Rattle.site_layouts.specs.Layouts.{HeldWorld, Shows}
 use Rattle.site_layouts.specs.Stages.{HeldSite, Layers, ShowsHeld, StandsFor, site_stage}
 use Rattle.site_core.specs.declared.site.Site.{Site}
 use Rattle.site_core.specs.declared.faults.SiteFault.{SiteFault}
-use Rattle.site_core.specs.declared.faults.SiteFault.TheVariants.{OutOfMemory, DiskFault, NotFormatted, AlreadyFormatted, BadRecord, NeedsRestart, NoSuchSpace, NoSuchPage, ChunkLost, LogLost, LogFull as FullLog}
+use Rattle.site_core.specs.declared.faults.SiteFault.TheVariants.{OutOfMemory, DiskFault, NotFormatted, AlreadyFormatted, BadRecord, NeedsRestart, NoSuchSpace, NoSuchPage, ChunkLost, LogLost, LogFull as FullLog, StoreFull, CatalogueFull, TooManyObjects, BootFull}
 use Rattle.site_core.specs.Disks.{MayUseAll, bytes_or, contents_of, disk_named, image_or, images_of, may_or}
 use Rattle.site_core.specs.Faults.{IsFailure, IsNamed, fault_in, full_of, status_in as status_of_site}
 use Rattle.site_commands.specs.Runs.{CommandResult, of_world, room_full, status_in as status_of_course, world_behind}
@@ -304,6 +304,10 @@ no_chunk_named spaces (NoSuchSpace name) is = tt
 no_chunk_named spaces (NoSuchPage page) is = tt
 no_chunk_named spaces LogLost is = tt
 no_chunk_named spaces (FullLog why) is = tt
+no_chunk_named spaces (StoreFull volume) is = tt
+no_chunk_named spaces CatalogueFull is = tt
+no_chunk_named spaces TooManyObjects is = tt
+no_chunk_named spaces BootFull is = tt
 
 -- A fault that a course may have, that isn't a failure and names a lost chunk, is told by the status of the course's.
 pub told_as : (spaces : List Space) (fault : SiteFault) → IsNamed spaces fault → (IsFailure fault → ⊥) → (fault_in fault ≡ bad_record → ⊥) → status_of_course spaces (fault_in fault) ≡ status_of_site fault
@@ -318,3 +322,7 @@ told_as spaces (NoSuchPage page) named whole good = refl
 told_as spaces (ChunkLost space name) named whole good = ap LostChunk (sym named)
 told_as spaces LogLost named whole good = refl
 told_as spaces (FullLog why) named whole good = ap LogFull (full_again why)
+told_as spaces (StoreFull volume) named whole good = refl
+told_as spaces CatalogueFull named whole good = refl
+told_as spaces TooManyObjects named whole good = refl
+told_as spaces BootFull named whole good = refl

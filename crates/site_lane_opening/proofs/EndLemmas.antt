@@ -25,7 +25,7 @@ use Rattle.site_core.specs.Faults.{IsNamed, of_lanes}
 use Rattle.site_core.specs.Made.{IsMadeSite}
 use Rattle.site_core.specs.Opened.{IsOpenSite}
 use Rattle.site_core.specs.declared.faults.SiteFault.{SiteFault}
-use Rattle.site_core.specs.declared.faults.SiteFault.TheVariants.{OutOfMemory, DiskFault, NotFormatted, AlreadyFormatted, BadRecord, NeedsRestart, NoSuchSpace, NoSuchPage, ChunkLost as LostChunk, LogLost, LogFull}
+use Rattle.site_core.specs.declared.faults.SiteFault.TheVariants.{OutOfMemory, DiskFault, NotFormatted, AlreadyFormatted, BadRecord, NeedsRestart, NoSuchSpace, NoSuchPage, ChunkLost as LostChunk, LogLost, LogFull, StoreFull, CatalogueFull, TooManyObjects, BootFull}
 use Rattle.site_core.specs.declared.site.Site.{Site}
 use Rattle.site_lane_opening.specs.Left.{IsLanesFault}
 use Rattle.site_lane_opening.specs.Steps.{Coming, FailsOne, Opens, Stops, StopsSite}
@@ -141,3 +141,7 @@ lanes_named wanted head (NoSuchSpace name) is = tt
 lanes_named wanted head (NoSuchPage page) is = tt
 lanes_named wanted head LogLost is = tt
 lanes_named wanted head (LogFull why) is = tt
+lanes_named wanted head (StoreFull volume) is = tt
+lanes_named wanted head CatalogueFull is = tt
+lanes_named wanted head TooManyObjects is = tt
+lanes_named wanted head BootFull is = tt

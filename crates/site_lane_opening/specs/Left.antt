@@ -12,7 +12,7 @@ use Rattle.site_layouts.specs.LaneWords.{LaneAgrees}
 use Rattle.site_layouts.specs.Stages.{HeldSite, ShowsHeld}
 use Rattle.site_openings.specs.Openings.{IsWanted, no_slot}
 use Rattle.site_core.specs.declared.faults.SiteFault.{SiteFault}
-use Rattle.site_core.specs.declared.faults.SiteFault.TheVariants.{OutOfMemory, DiskFault, NotFormatted, AlreadyFormatted, BadRecord, NeedsRestart, NoSuchSpace, NoSuchPage, ChunkLost, LogLost, LogFull}
+use Rattle.site_core.specs.declared.faults.SiteFault.TheVariants.{OutOfMemory, DiskFault, NotFormatted, AlreadyFormatted, BadRecord, NeedsRestart, NoSuchSpace, NoSuchPage, ChunkLost, LogLost, LogFull, StoreFull, CatalogueFull, TooManyObjects, BootFull}
 use Rattle.site_core.specs.declared.site.Site.{Site}
 use Rattle.site_core.specs.Disks.{contents_of, images_of}
 
@@ -38,6 +38,10 @@ IsLanesFault wanted head (NoSuchSpace name) = ⊥
 IsLanesFault wanted head (NoSuchPage page) = ⊥
 IsLanesFault wanted head LogLost = ⊥
 IsLanesFault wanted head (LogFull why) = ⊥
+IsLanesFault wanted head (StoreFull volume) = ⊥
+IsLanesFault wanted head CatalogueFull = ⊥
+IsLanesFault wanted head TooManyObjects = ⊥
+IsLanesFault wanted head BootFull = ⊥
 
 module _ {D : Type 0} (disk : Ghosts D) where
   -- what a read gives of each such chunk shows its lane

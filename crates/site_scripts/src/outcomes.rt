@@ -102,6 +102,10 @@ pub fn stop_of(fault: SiteFault) -> Stop
         | SiteFault::NoSuchSpace(_)
         | SiteFault::NoSuchPage(_)
         | SiteFault::ChunkLost { .. }
-        | SiteFault::LogLost => unreachable!(),
+        | SiteFault::LogLost
+        | SiteFault::StoreFull(_)
+        | SiteFault::CatalogueFull
+        | SiteFault::TooManyObjects
+        | SiteFault::BootFull => unreachable!(),
     }
 }

@@ -12,7 +12,7 @@ use Rattle.site_courses.specs.Courses.{if_active, if_log_lost, if_no_ring}
 use Rattle.site_openings.specs.Openings.{AllowedBy, Check, Contents_of, IsOfDisks, RefusedBy, Refuses, all_lanes}
 use Rattle.site_disk.specs.declared.disk.Disk.{Ghosts}
 use Rattle.site_core.specs.declared.faults.SiteFault.{SiteFault}
-use Rattle.site_core.specs.declared.faults.SiteFault.TheVariants.{OutOfMemory, DiskFault, NotFormatted, AlreadyFormatted, BadRecord, NeedsRestart, NoSuchSpace, NoSuchPage, ChunkLost, LogLost, LogFull}
+use Rattle.site_core.specs.declared.faults.SiteFault.TheVariants.{OutOfMemory, DiskFault, NotFormatted, AlreadyFormatted, BadRecord, NeedsRestart, NoSuchSpace, NoSuchPage, ChunkLost, LogLost, LogFull, StoreFull, CatalogueFull, TooManyObjects, BootFull}
 use Rattle.site_core.specs.declared.site.Site.{Site}
 use Rattle.site_core.specs.Faults.{IsFailure, IsNoDiskFault, fault_in, status_in}
 use Rattle.site_core.specs.Quiet.{IsQuiet}
@@ -73,6 +73,10 @@ failure_or (NoSuchPage page) = inr (λ is. is)
 failure_or (ChunkLost space name) = inr (λ is. is)
 failure_or LogLost = inr (λ is. is)
 failure_or (LogFull why) = inr (λ is. is)
+failure_or (StoreFull volume) = inr (λ is. is)
+failure_or CatalogueFull = inr (λ is. is)
+failure_or TooManyObjects = inr (λ is. is)
+failure_or BootFull = inr (λ is. is)
 
 -- two calls that write nothing
 pub quiet_again : {D : Type 0} (disk : Ghosts D) (a b c : Site D) → IsQuiet disk a b → IsQuiet disk b c → IsQuiet disk a c

@@ -34,7 +34,7 @@ use Rattle.site_commands.specs.Runs.{CommandResult, refused_by, run_form, run_te
 use Rattle.site_courses.specs.Faults.{not_formatted}
 use Rattle.site_openings.specs.Openings.{DisksRefuse}
 use Rattle.site_core.specs.declared.faults.SiteFault.{SiteFault}
-use Rattle.site_core.specs.declared.faults.SiteFault.TheVariants.{OutOfMemory, DiskFault, NotFormatted as NoSite, AlreadyFormatted, BadRecord, NeedsRestart, NoSuchSpace, NoSuchPage, ChunkLost, LogLost, LogFull}
+use Rattle.site_core.specs.declared.faults.SiteFault.TheVariants.{OutOfMemory, DiskFault, NotFormatted as NoSite, AlreadyFormatted, BadRecord, NeedsRestart, NoSuchSpace, NoSuchPage, ChunkLost, LogLost, LogFull, StoreFull, CatalogueFull, TooManyObjects, BootFull}
 use Rattle.site_core.specs.declared.site.Site.{Site as Values}
 use Rattle.site_core.specs.Disks.{contents_of, image_or, images_of}
 use Rattle.site_core.specs.Faults.{IsFailure, fault_in, status_in}
@@ -68,6 +68,10 @@ failure_cuts (NoSuchPage page) is = absurd is
 failure_cuts (ChunkLost space name) is = absurd is
 failure_cuts LogLost is = absurd is
 failure_cuts (LogFull why) is = absurd is
+failure_cuts (StoreFull volume) is = absurd is
+failure_cuts CatalogueFull is = absurd is
+failure_cuts TooManyObjects is = absurd is
+failure_cuts BootFull is = absurd is
 
 module _ {D : Type 0} (disk : Ghosts D) (from : ℕ) (old : Values D) where
   abbrev start : Start

@@ -18,7 +18,7 @@ use Rattle.site_headers.specs.Heads.{Head}
 use Rattle.site_scripts.specs.Extending.{MayRun}
 use Rattle.site_runs.specs.Scripts.{script_course, transactions_of}
 use Rattle.site_core.specs.declared.faults.SiteFault.{SiteFault}
-use Rattle.site_core.specs.declared.faults.SiteFault.TheVariants.{OutOfMemory, DiskFault, NotFormatted, AlreadyFormatted, BadRecord, NeedsRestart, NoSuchSpace, NoSuchPage, ChunkLost, LogLost, LogFull}
+use Rattle.site_core.specs.declared.faults.SiteFault.TheVariants.{OutOfMemory, DiskFault, NotFormatted, AlreadyFormatted, BadRecord, NeedsRestart, NoSuchSpace, NoSuchPage, ChunkLost, LogLost, LogFull, StoreFull, CatalogueFull, TooManyObjects, BootFull}
 use Rattle.site_core.specs.Faults.{IsNamed, fault_in, status_in}
 use Rattle.site_commands.specs.Commands.{HasRead}
 use Rattle.site_forms.specs.PassingLaws.{IsOfNoChunk, no_chunk_named, no_chunk_or}
@@ -110,6 +110,10 @@ of_fault spaces (NoSuchPage page) is named = absurd is
 of_fault spaces (ChunkLost space name) is named = record { status = ap Lost (sym named); counts = refl; read = λ left after. tt }
 of_fault spaces LogLost is named = record { status = refl; counts = refl; read = λ left after. tt }
 of_fault spaces (LogFull why) is named = absurd is
+of_fault spaces (StoreFull volume) is named = absurd is
+of_fault spaces CatalogueFull is named = absurd is
+of_fault spaces TooManyObjects is named = absurd is
+of_fault spaces BootFull is named = absurd is
 
 pub tells_refusal : (site : Site) (fault : SiteFault) → if_refused site ≡ Some (fault_in fault) → IsNamed site.head.spaces fault → TellsRefusal site.head.spaces fault
 tells_refusal site fault is named = of_fault site.head.spaces fault (subst IsOfEntry is (of_entry site)) named
