@@ -1,0 +1,330 @@
+-- A store whose volumes have changed at one place, and what it agrees with then.
+use Rattle.std.proofs.Common.{◌≡◌, ◌≢◌, ◌⊎◌, ℕ, ◌+◌, ◌<◌, ◌≤◌, Bool, true, false, nat_eq, IsTrue, List, [], ◌∷◌, ◌++◌, length, get_or, map, Some, refl, sym, ap, ◌∙◌, subst, arith, inl, inr, ⊎_elim, eq-eqb, ne_eqb, length-set}
+use Rattle.std.proofs.lemmas.Bool.{cases_eq}
+use Rattle.std.proofs.lemmas.List.{append-nil}
+use Rattle.std.proofs.lemmas.Option.{slice_get_within, slice_get-get_or}
+use Rattle.std.specs.Prelude.{slice_get}
+use Rattle.site_disk.specs.Ledger.{EraView}
+use Rattle.site_disk.specs.Seen.{seen}
+use Rattle.site_disk.specs.declared.disk.Disk.{Ghosts}
+use Rattle.block_chain.specs.declared.runs.Run.{Run}
+use Rattle.bsa_descriptor.specs.declared.descriptor.Descriptor.{Descriptor}
+use Rattle.catalogue_replay.specs.Contents.{Contents}
+use Rattle.catalogue_journal.specs.Catalogues.{cat_of, spare_of, capacity_of, used_of, objects_of, contents_in, IsOpen as IsOpenCatalogue, Stands}
+use Rattle.catalogue_journal.specs.Transactions.{Addition}
+use Rattle.catalogue_journal.specs.declared.catalogue.Catalogue.{Catalogue}
+use Rattle.bsa_session.specs.Voting.{DropsSent}
+use Rattle.object_store.specs.Endings.{places, HoldAll}
+use Rattle.object_store.specs.Holdings.{Holds}
+use Rattle.object_store.specs.Reading.{ChangesOne}
+use Rattle.object_store.specs.Returns.{Placed, place_of_addition, place_of_object, runs_on, AllGiveBack, Cancels}
+use Rattle.object_store.specs.Stores.{OfEach, IsOpenStore, IsOpenAt}
+use Rattle.object_store.specs.declared.store.Store.{Store}
+use Rattle.object_store.proofs.DeletedLemmas.{holds_swapped}
+use Rattle.object_store.proofs.ReturnLemmas.{one_value, runs_on-append, runs_on-here, runs_on-elsewhere, slice_get-set_same, slice_get-set_other}
+use Rattle.object_volume.specs.Volumes.{disk_of, number_of, blocks_in, IsOpen, IsIdle}
+use Rattle.object_volume.specs.declared.volume.Volume.{Volume}
+use Rattle.session_machine.specs.States.{State, new_draft}
+use Rattle.site_headers.specs.Areas.{slot_count}
+use Rattle.site_headers.specs.Heads.{Head}
+use Rattle.store_calls.specs.SendLaws.{there_too}
+use Rattle.store_calls.specs.Sessions.{HasTaken, HasSent}
+use Rattle.store_opening.specs.Disks.{EachFrom}
+use Rattle.store_opening.specs.Opening.{live_on}
+use Rattle.store_opening.specs.Standing.{Agrees, IsBehind}
+use Rattle.site_votes.specs.Objects.{place_for, addition_of}
+use Rattle.site_votes.specs.Sent.{IsSentWhole, HasNoRoom}
+use Rattle.site_votes.specs.Stores.{IsSettled, MayUseStore}
+
+-- an item at a place that is indexed
+pub there_of : {X : Type 0} (items : List X) (k number : ℕ) (d was : X) → k ≡ number → number < length items → was ≡ get_or items k d → slice_get items number ≡ Some was
+there_of items k number d was same lt is =
+    ap (slice_get items) (sym same) ∙ slice_get-get_or items k d (omega (arith, same, lt)) ∙ ap (λ x. Some x) (sym is)
+
+-- of one object, what stands on a volume
+pub runs_here : (number place : ℕ) (runs : List Run) → place ≡ number → runs_on place (record { volume = number; runs = runs } ∷ []) ≡ runs ∷ []
+runs_here number place runs same = runs_on-here place (record { volume = number; runs = runs }) [] same
+
+pub runs_elsewhere : (number place : ℕ) (runs : List Run) → place ≢ number → runs_on place (record { volume = number; runs = runs } ∷ []) ≡ []
+runs_elsewhere number place runs other = runs_on-elsewhere place (record { volume = number; runs = runs }) [] other
+
+module _ {D : Type 0} where
+  -- at one place it holds, and each other volume is as it was
+  abbrev pub OneOf : (Volume D → Volume D → Type 0) → ℕ → ℕ → Volume D → Volume D → Type 0
+  OneOf P number place was is = ((place ≡ number) × P was is) ⊎ ((place ≢ number) × (is ≡ was))
+
+  pub each_of_one : (P : Volume D → Volume D → Type 0) (number : ℕ) (old new : List (Volume D)) → ChangesOne P number old new → EachFrom (OneOf P number) old new
+  each_of_one P number old new one = record {
+    count = ap length one.changed ∙ length-set old number one.is;
+    each = λ place was is before behind. elim (cases_eq place number) [
+      | inl same ↦ inl (same, here place was is same before behind)
+      | inr other ↦ inr (other, elsewhere place was is other before behind)
+    ];
+  }
+    where
+      lt : number < length old
+      lt = slice_get_within old number one.was one.there
+
+      here : (place : ℕ) (was is : Volume D) → place ≡ number → slice_get old place ≡ Some was → slice_get new place ≡ Some is → P was is
+      here place was is same before behind =
+          let first : one.was ≡ was = one_value old place one.was was (ap (slice_get old) same ∙ one.there) before in
+          let set : slice_get new place ≡ Some one.is =
+          ap (slice_get new) same ∙ ap (λ (l : List (Volume D)). slice_get l number) one.changed ∙ slice_get-set_same old number one.is lt in
+          let last : one.is ≡ is = one_value new place one.is is set behind in
+          subst (λ (v : Volume D). P v is) first (subst (λ (v : Volume D). P one.was v) last one.by)
+
+      elsewhere : (place : ℕ) (was is : Volume D) → place ≢ number → slice_get old place ≡ Some was → slice_get new place ≡ Some is → is ≡ was
+      elsewhere place was is other before behind =
+          one_value old place is was (sym (slice_get-set_other old place number one.is other) ∙ ap (λ (l : List (Volume D)). slice_get l place) (sym one.changed) ∙ behind) before
+
+  -- what holds of the one volume at the place
+  pub at_place : (P : Volume D → Volume D → Type 0) (Q : Volume D → Type 0) (number : ℕ) (old new : List (Volume D)) → ((was is : Volume D) → P was is → Q is)
+      → ChangesOne P number old new → (place : ℕ) (volume : Volume D) → slice_get new place ≡ Some volume → place ≡ number → Q volume
+  at_place P Q number old new means one place volume there same =
+      let changed = each_of_one P number old new one in
+      let was = there_too old new place volume changed.count there in
+      ⊎_elim (λ here. means was.0 volume here.1) (λ other. absurd (other.0 same)) (changed.each place was.0 volume was.1 there)
+
+  -- a store stays open where the one volume does
+  pub open_changed : (P : Volume D → Volume D → Type 0) (number : ℕ) (old new : Store D) → ((was is : Volume D) → P was is → IsOpen is × (number_of is ≡ number))
+      → new.cat ≡ old.cat → ChangesOne P number old.volumes.items new.volumes.items → IsOpenStore old → IsOpenStore new
+  open_changed P number old new keeps cat one opened = record {
+    cat = subst (λ (c : Catalogue D). IsOpenCatalogue c) (sym cat) opened.cat;
+    count = each.count ∙ opened.count;
+    each = λ place volume there.
+        let was = there_too old.volumes.items new.volumes.items place volume each.count there in
+        ⊎_elim
+        (λ here. let it = keeps was.0 volume here.1 in record { number = it.1 ∙ sym here.0; opened = it.0 })
+        (λ other. subst (IsOpenAt place) (sym other.1) (opened.each place was.0 was.1))
+        (each.each place was.0 volume was.1 there);
+  }
+    where
+      each : EachFrom (OneOf P number) old.volumes.items new.volumes.items
+      each = each_of_one P number old.volumes.items new.volumes.items one
+
+  pub behind_others : (volume : Volume D) (runs : List Run) (objects : List (List Run)) → Holds volume (runs ∷ objects) → Holds volume (objects ++ runs ∷ [])
+  behind_others volume runs objects holds =
+      holds_swapped volume [] (runs ∷ []) objects [] (subst (λ (l : List (List Run)). Holds volume (runs ∷ l)) (sym (append-nil objects)) holds)
+
+module _ {D : Type 0} (disk : Ghosts D) where
+  pub later_still : (from to : ℕ) (it : D) → from ≤ to → IsBehind disk.ledger from it → IsBehind disk.ledger to it
+  later_still from to it le is = record { last = (let last = is.last in omega (arith, le, last)); synced = is.synced }
+
+  -- of a volume all stays that a store needs to agree with its disks, from another era on
+  pub record Stays (from to : ℕ) (was is : Volume D) : Type 0 where
+    pub blocks : blocks_in is ≡ blocks_in was
+    pub idle : IsIdle was → IsIdle is
+    pub holds : (objects : List (List Run)) → Holds was objects → Holds is objects
+    pub behind : IsBehind disk.ledger from (disk_of was) → IsBehind disk.ledger to (disk_of is)
+
+  pub agrees_still : (from to : ℕ) (old new : Store D) → from ≤ to → new.cat ≡ old.cat → IsOpenStore new
+      → EachFrom (λ place was is. Stays from to was is) old.volumes.items new.volumes.items
+      → (head : Head) (contents : Contents) (taken : ℕ) → Agrees disk from old contents taken head → Agrees disk to new contents taken head
+  agrees_still from to old new le cat opened stays head contents taken agrees = record {
+    opened = opened;
+    stands = by_cat (λ c. Stands (seen disk (cat_of c)) c) agrees.stands;
+    contents_are = by_cat (λ c. contents_in c ≡ contents) agrees.contents_are;
+    used = by_cat (λ c. used_of c ≡ taken) agrees.used;
+    capacity = by_cat (λ c. capacity_of c ≡ slot_count) agrees.capacity;
+    blocks = λ place volume there. let it = was_at place volume there in (stay place volume there).blocks ∙ agrees.blocks place it.0 it.1;
+    idle = λ place volume there. let it = was_at place volume there in (stay place volume there).idle (agrees.idle place it.0 it.1);
+    holds = λ place volume there. let it = was_at place volume there in (stay place volume there).holds (live_on place contents.objects) (agrees.holds place it.0 it.1);
+    cat_behind = by_cat (λ c. IsBehind disk.ledger to (cat_of c)) (later_still from to (cat_of old.cat) le agrees.cat_behind);
+    spare_behind = by_cat (λ c. IsBehind disk.ledger to (spare_of c)) (later_still from to (spare_of old.cat) le agrees.spare_behind);
+    volumes_behind = λ place volume there. let it = was_at place volume there in (stay place volume there).behind (agrees.volumes_behind place it.0 it.1);
+  }
+    where
+      by_cat : (P : Catalogue D → Type 0) → P old.cat → P new.cat
+      by_cat P it = subst P (sym cat) it
+
+      was_at : (place : ℕ) (volume : Volume D) → slice_get new.volumes.items place ≡ Some volume → (was : Volume D) × (slice_get old.volumes.items place ≡ Some was)
+      was_at place volume there = there_too old.volumes.items new.volumes.items place volume stays.count there
+
+      stay : (place : ℕ) (volume : Volume D) (there : slice_get new.volumes.items place ≡ Some volume) → Stays from to (was_at place volume there).0 volume
+      stay place volume there = let it = was_at place volume there in stays.each place it.0 volume it.1 there
+
+  module _ (era : EraView) (number : ℕ) (descriptor : Descriptor) (message : List ℕ) (state : State) where
+    -- it was sent, in these runs, or lacked the room
+    abbrev SentIn : List Run → Volume D → Volume D → Type 0
+    SentIn runs was is = (it : IsSentWhole disk era number descriptor message state was is) × (it.runs ≡ runs)
+
+    abbrev Lacking : Volume D → Volume D → Type 0
+    Lacking was is = HasNoRoom disk era number descriptor message state was is
+
+    -- where the object went back behind a refused vote
+    pub given_up : IsTrue disk.is_modelled → (to : ℕ) → era.number < to → (old mid new : List (Volume D)) (one : ChangesOne (IsSentWhole disk era number descriptor message state) number old mid)
+        → AllGiveBack disk.is_modelled disk.bytes (map place_of_addition (addition_of number descriptor message one.by.runs ∷ [])) mid new
+        → EachFrom (λ place was is. Stays era.number to was is) old new
+    given_up tells to later old mid new one gives = record {
+      count = gives.count ∙ ap length one.changed ∙ length-set old number one.is;
+      each = each;
+    }
+      where
+        sharp : ChangesOne (SentIn one.by.runs) number old mid
+        sharp = record { was = one.was; is = one.is; there = one.there; changed = one.changed; by = (one.by, refl) }
+
+        each : (place : ℕ) (was is : Volume D) → slice_get old place ≡ Some was → slice_get new place ≡ Some is → Stays era.number to was is
+        each place was is before behind =
+            let between = there_too mid new place is gives.count behind in
+            let gave = gives.each place between.0 is between.1 behind in
+            ⊎_elim
+            (λ here. record {
+              blocks = gave.count ∙ here.1.0.blocks tells;
+              idle = λ idle. gave.idle here.1.0.idle;
+              holds = λ objects holds. gave.holds objects
+                  (subst (λ (l : List (List Run)). Holds between.0 (l ++ objects)) (sym (runs_here number place one.by.runs here.0))
+                  (subst (λ (r : List Run). Holds between.0 (r ∷ objects)) here.1.1 (here.1.0.holds objects holds)));
+              behind = λ old_behind. subst (IsBehind disk.ledger to) (sym gave.disk)
+                  (record { last = (let may = here.1.0.may in omega (arith, later, may.not_past)); synced = here.1.0.may.synced });
+            })
+            (λ other. record {
+              blocks = gave.count ∙ ap blocks_in other.1;
+              idle = λ idle. gave.idle (subst IsIdle (sym other.1) idle);
+              holds = λ objects holds. gave.holds objects
+                  (subst (λ (l : List (List Run)). Holds between.0 (l ++ objects)) (sym (runs_elsewhere number place one.by.runs other.0))
+                  (subst (λ (v : Volume D). Holds v objects) (sym other.1) holds));
+              behind = λ old_behind. subst (IsBehind disk.ledger to) (sym gave.disk)
+                  (subst (λ (v : Volume D). IsBehind disk.ledger to (disk_of v)) (sym other.1) (later_still era.number to (disk_of was) (omega (arith, later)) old_behind));
+            })
+            ((each_of_one (SentIn one.by.runs) number old mid sharp).each place was between.0 before between.1)
+
+    -- where the volume lacked the room, and the session was ended
+    pub no_room : (old mid new : List (Volume D)) → ChangesOne (HasNoRoom disk era number descriptor message state) number old mid
+        → DropsSent disk.is_modelled disk.bytes (new_draft (place_for number descriptor)) mid new
+        → EachFrom (λ place was is. Stays era.number era.number was is × (disk_of is ≡ disk_of was)) old new
+    no_room old mid new one drops = record {
+      count = cancelled.count ∙ drops.returned.count ∙ sent.count;
+      each = each;
+    }
+      where
+        sent : EachFrom (OneOf Lacking number) old mid
+        sent = each_of_one Lacking number old mid one
+
+        cancelled : EachFrom (OneOf Cancels number) drops.between new
+        cancelled = each_of_one Cancels number drops.between new drops.cancelled
+
+        each : (place : ℕ) (was is : Volume D) → slice_get old place ≡ Some was → slice_get new place ≡ Some is
+            → Stays era.number era.number was is × (disk_of is ≡ disk_of was)
+        each place was is before behind =
+            let two = there_too drops.between new place is cancelled.count behind in
+            let one_ = there_too mid drops.between place two.0 drops.returned.count two.1 in
+            let gave = drops.returned.each place one_.0 two.0 one_.1 two.1 in
+            let first = sent.each place was one_.0 before one_.1 in
+            let last = cancelled.each place two.0 is two.1 behind in
+            ⊎_elim
+            (λ here. ⊎_elim
+            (λ gone.
+            let same : disk_of is ≡ disk_of was = gone.1.disk ∙ gave.disk ∙ here.1.same in (
+              record {
+                blocks = gone.1.count ∙ gave.count ∙ here.1.blocks;
+                idle = λ idle. gone.1.idle;
+                holds = λ objects holds. gone.1.holds objects (gave.holds objects (here.1.holds objects holds));
+                behind = λ old_behind. subst (IsBehind disk.ledger era.number) (sym same) old_behind;
+              },
+              same,
+            ))
+            (λ not. absurd (not.0 here.0))
+            last)
+            (λ other. ⊎_elim
+            (λ gone. absurd (other.0 gone.0))
+            (λ not.
+            let same : disk_of is ≡ disk_of was = ap disk_of not.1 ∙ gave.disk ∙ ap disk_of other.1 in (
+              record {
+                blocks = ap blocks_in not.1 ∙ gave.count ∙ ap blocks_in other.1;
+                idle = λ idle. subst IsIdle (sym not.1) (gave.idle (subst IsIdle (sym other.1) idle));
+                holds = λ objects holds. subst (λ (v : Volume D). Holds v objects) (sym not.1) (gave.holds objects (subst (λ (v : Volume D). Holds v objects) (sym other.1) holds));
+                behind = λ old_behind. subst (IsBehind disk.ledger era.number) (sym same) old_behind;
+              },
+              same,
+            ))
+            last)
+            first
+
+    -- where it was sent
+    pub has_sent : IsTrue disk.is_modelled → (old mid : Store D) → IsSettled old → MayUseStore disk era old → mid.cat ≡ old.cat
+        → (one : ChangesOne (IsSentWhole disk era number descriptor message state) number old.volumes.items mid.volumes.items)
+        → HasSent disk era.number (addition_of number descriptor message one.by.runs ∷ []) old mid
+    has_sent tells old mid settled may cat one = record { cat = cat; volumes = record { count = changed.count; each = each } }
+      where
+        changed : EachFrom (OneOf (SentIn one.by.runs) number) old.volumes.items mid.volumes.items
+        changed = each_of_one (SentIn one.by.runs) number old.volumes.items mid.volumes.items
+            (record { was = one.was; is = one.is; there = one.there; changed = one.changed; by = (one.by, refl) })
+
+        each : (place : ℕ) (was is : Volume D) → slice_get old.volumes.items place ≡ Some was → slice_get mid.volumes.items place ≡ Some is
+            → HasTaken disk era.number (runs_on place (map place_of_addition (addition_of number descriptor message one.by.runs ∷ []))) was is
+        each place was is before behind = ⊎_elim
+            (λ here. subst (λ (l : List (List Run)). HasTaken disk era.number l was is) (sym (runs_here number place one.by.runs here.0))
+            (record {
+              blocks = here.1.0.blocks tells;
+              idle = here.1.0.idle;
+              holds = λ objects holds. behind_others is one.by.runs objects (subst (λ (r : List Run). Holds is (r ∷ objects)) here.1.1 (here.1.0.holds objects holds));
+              last = here.1.0.may.not_past;
+              synced = here.1.0.may.synced;
+            }))
+            (λ other. subst (λ (l : List (List Run)). HasTaken disk era.number l was is) (sym (runs_elsewhere number place one.by.runs other.0))
+            (subst (HasTaken disk era.number [] was) (sym other.1)
+            (record {
+              blocks = refl;
+              idle = settled.idle place was before;
+              holds = λ objects holds. subst (Holds was) (sym (append-nil objects)) holds;
+              last = (may.volumes place was before).not_past;
+              synced = (may.volumes place was before).synced;
+            })))
+            (changed.each place was is before behind)
+
+    -- what was sent and the committed objects are held
+    pub held_sent : (old mid : Store D) → IsSettled old → mid.cat ≡ old.cat
+        → (one : ChangesOne (IsSentWhole disk era number descriptor message state) number old.volumes.items mid.volumes.items)
+        → HoldAll (places (objects_of mid.cat) (addition_of number descriptor message one.by.runs ∷ [])) mid.volumes.items
+    held_sent old mid settled cat one place volume there = record {
+      others = [];
+      holds = subst (Holds volume) whole (held (subst (λ (c : Catalogue D). Holds was.0 (live_on place (objects_of c))) (sym cat) (settled.holds place was.0 was.1)));
+    }
+      where
+        changed : EachFrom (OneOf (SentIn one.by.runs) number) old.volumes.items mid.volumes.items
+        changed = each_of_one (SentIn one.by.runs) number old.volumes.items mid.volumes.items
+            (record { was = one.was; is = one.is; there = one.there; changed = one.changed; by = (one.by, refl) })
+
+        was : (v : Volume D) × (slice_get old.volumes.items place ≡ Some v)
+        was = there_too old.volumes.items mid.volumes.items place volume changed.count there
+
+        held : Holds was.0 (live_on place (objects_of mid.cat))
+            → Holds volume (live_on place (objects_of mid.cat) ++ runs_on place (map place_of_addition (addition_of number descriptor message one.by.runs ∷ [])))
+        held holds = ⊎_elim
+            (λ here. subst (λ (l : List (List Run)). Holds volume (live_on place (objects_of mid.cat) ++ l)) (sym (runs_here number place one.by.runs here.0))
+            (behind_others volume one.by.runs (live_on place (objects_of mid.cat))
+            (subst (λ (r : List Run). Holds volume (r ∷ live_on place (objects_of mid.cat))) here.1.1 (here.1.0.holds (live_on place (objects_of mid.cat)) holds))))
+            (λ other. subst (λ (l : List (List Run)). Holds volume (live_on place (objects_of mid.cat) ++ l)) (sym (runs_elsewhere number place one.by.runs other.0))
+            (subst (λ (v : Volume D). Holds v (live_on place (objects_of mid.cat) ++ [])) (sym other.1)
+            (subst (Holds was.0) (sym (append-nil (live_on place (objects_of mid.cat)))) holds)))
+            (changed.each place was.0 volume was.1 there)
+
+        whole : live_on place (objects_of mid.cat) ++ runs_on place (map place_of_addition (addition_of number descriptor message one.by.runs ∷ []))
+            ≡ runs_on place (places (objects_of mid.cat) (addition_of number descriptor message one.by.runs ∷ [])) ++ []
+        whole = sym (runs_on-append place (map place_of_object (objects_of mid.cat)) (map place_of_addition (addition_of number descriptor message one.by.runs ∷ [])))
+            ∙ sym (append-nil (runs_on place (places (objects_of mid.cat) (addition_of number descriptor message one.by.runs ∷ []))))
+
+    -- nothing was sent, and the committed objects are held
+    pub held_still : (old mid : Store D) → IsSettled old → mid.cat ≡ old.cat
+        → ChangesOne (HasNoRoom disk era number descriptor message state) number old.volumes.items mid.volumes.items
+        → HoldAll (places (objects_of mid.cat) []) mid.volumes.items
+    held_still old mid settled cat one place volume there = record {
+      others = [];
+      holds = subst (Holds volume) whole (still (subst (λ (c : Catalogue D). Holds was.0 (live_on place (objects_of c))) (sym cat) (settled.holds place was.0 was.1)));
+    }
+      where
+        changed : EachFrom (OneOf Lacking number) old.volumes.items mid.volumes.items
+        changed = each_of_one Lacking number old.volumes.items mid.volumes.items one
+
+        was : (v : Volume D) × (slice_get old.volumes.items place ≡ Some v)
+        was = there_too old.volumes.items mid.volumes.items place volume changed.count there
+
+        still : Holds was.0 (live_on place (objects_of mid.cat)) → Holds volume (live_on place (objects_of mid.cat))
+        still holds = ⊎_elim
+            (λ here. here.1.holds (live_on place (objects_of mid.cat)) holds)
+            (λ other. subst (λ (v : Volume D). Holds v (live_on place (objects_of mid.cat))) (sym other.1) holds)
+            (changed.each place was.0 volume was.1 there)
+
+        whole : live_on place (objects_of mid.cat) ≡ runs_on place (places (objects_of mid.cat) []) ++ []
+        whole = sym (append-nil (runs_on place (places (objects_of mid.cat) []))
+            ∙ ap (λ (l : List Placed). runs_on place l) (append-nil (map place_of_object (objects_of mid.cat))))

@@ -1,0 +1,4 @@
+pub mod Objects
+pub mod Sent
+pub mod Stores
+pub mod Voted
