@@ -1,10 +1,10 @@
 -- A store whose volumes have changed at one place, and what it agrees with then.
-use Rattle.std.proofs.Common.{◌≡◌, ◌≢◌, ◌⊎◌, ℕ, ◌+◌, ◌<◌, ◌≤◌, Bool, true, false, nat_eq, IsTrue, List, [], ◌∷◌, ◌++◌, length, get_or, map, Some, refl, sym, ap, ◌∙◌, subst, arith, inl, inr, ⊎_elim, eq-eqb, ne_eqb, length-set}
+use Rattle.std.proofs.Common.{◌≡◌, ◌≢◌, ◌⊎◌, ℕ, ◌+◌, ◌<◌, ◌≤◌, Bool, true, false, nat_eq, IsTrue, List, [], ◌∷◌, ◌++◌, length, get_or, map, Some, Result, Ok, Err, refl, sym, ap, ◌∙◌, subst, arith, inl, inr, ⊎_elim, eq-eqb, ne_eqb, length-set}
 use Rattle.std.proofs.lemmas.Bool.{cases_eq}
 use Rattle.std.proofs.lemmas.List.{append-nil}
 use Rattle.std.proofs.lemmas.Option.{slice_get_within, slice_get-get_or}
-use Rattle.std.specs.Prelude.{slice_get}
-use Rattle.site_disk.specs.Ledger.{EraView}
+use Rattle.std.specs.Prelude.{slice_get, OnOk}
+use Rattle.site_disk.specs.Ledger.{EraView, MayUse}
 use Rattle.site_disk.specs.Seen.{seen}
 use Rattle.site_disk.specs.declared.disk.Disk.{Ghosts}
 use Rattle.block_chain.specs.declared.runs.Run.{Run}
@@ -13,8 +13,8 @@ use Rattle.catalogue_replay.specs.Contents.{Contents}
 use Rattle.catalogue_journal.specs.Catalogues.{cat_of, spare_of, capacity_of, used_of, objects_of, contents_in, IsOpen as IsOpenCatalogue, Stands}
 use Rattle.catalogue_journal.specs.Transactions.{Addition}
 use Rattle.catalogue_journal.specs.declared.catalogue.Catalogue.{Catalogue}
-use Rattle.bsa_session.specs.Voting.{DropsSent}
-use Rattle.object_store.specs.Endings.{places, HoldAll}
+use Rattle.bsa_session.specs.Voting.{added_in, DropsSent}
+use Rattle.object_store.specs.Endings.{places, HoldAll, HoldWith}
 use Rattle.object_store.specs.Holdings.{Holds}
 use Rattle.object_store.specs.Reading.{ChangesOne}
 use Rattle.object_store.specs.Returns.{Placed, place_of_addition, place_of_object, runs_on, AllGiveBack, Cancels}
@@ -35,6 +35,8 @@ use Rattle.store_opening.specs.Standing.{Agrees, IsBehind}
 use Rattle.site_votes.specs.Objects.{place_for, addition_of}
 use Rattle.site_votes.specs.Sent.{IsSentWhole, HasNoRoom}
 use Rattle.site_votes.specs.Stores.{IsSettled, MayUseStore}
+use Rattle.site_votes.specs.Voted.{IsCommitted, VoteEnds}
+use Rattle.site_core.specs.declared.faults.SiteFault.{SiteFault}
 
 -- an item at a place that is indexed
 pub there_of : {X : Type 0} (items : List X) (k number : ℕ) (d was : X) → k ≡ number → number < length items → was ≡ get_or items k d → slice_get items number ≡ Some was
@@ -272,14 +274,12 @@ module _ {D : Type 0} (disk : Ghosts D) where
             })))
             (changed.each place was is before behind)
 
-    -- what was sent and the committed objects are held
-    pub held_sent : (old mid : Store D) → IsSettled old → mid.cat ≡ old.cat
+    -- what was sent and the committed objects are held, and no others
+    pub held_alone : (old mid : Store D) → IsSettled old → mid.cat ≡ old.cat
         → (one : ChangesOne (IsSentWhole disk era number descriptor message state) number old.volumes.items mid.volumes.items)
-        → HoldAll (places (objects_of mid.cat) (addition_of number descriptor message one.by.runs ∷ [])) mid.volumes.items
-    held_sent old mid settled cat one place volume there = record {
-      others = [];
-      holds = subst (Holds volume) whole (held (subst (λ (c : Catalogue D). Holds was.0 (live_on place (objects_of c))) (sym cat) (settled.holds place was.0 was.1)));
-    }
+        → HoldWith (places (objects_of mid.cat) (addition_of number descriptor message one.by.runs ∷ [])) (λ place. []) mid.volumes.items
+    held_alone old mid settled cat one place volume there =
+        subst (Holds volume) whole (held (subst (λ (c : Catalogue D). Holds was.0 (live_on place (objects_of c))) (sym cat) (settled.holds place was.0 was.1)))
       where
         changed : EachFrom (OneOf (SentIn one.by.runs) number) old.volumes.items mid.volumes.items
         changed = each_of_one (SentIn one.by.runs) number old.volumes.items mid.volumes.items
@@ -303,6 +303,80 @@ module _ {D : Type 0} (disk : Ghosts D) where
             ≡ runs_on place (places (objects_of mid.cat) (addition_of number descriptor message one.by.runs ∷ [])) ++ []
         whole = sym (runs_on-append place (map place_of_object (objects_of mid.cat)) (map place_of_addition (addition_of number descriptor message one.by.runs ∷ [])))
             ∙ sym (append-nil (runs_on place (places (objects_of mid.cat) (addition_of number descriptor message one.by.runs ∷ []))))
+
+    pub held_sent : (old mid : Store D) → IsSettled old → mid.cat ≡ old.cat
+        → (one : ChangesOne (IsSentWhole disk era number descriptor message state) number old.volumes.items mid.volumes.items)
+        → HoldAll (places (objects_of mid.cat) (addition_of number descriptor message one.by.runs ∷ [])) mid.volumes.items
+    held_sent old mid settled cat one place volume there = record { others = []; holds = held_alone old mid settled cat one place volume there }
+
+    -- behind the vote the store is settled, and may be used
+    module _ (to : EraView) (old mid new : Store D) (settled : IsSettled old) (may : MayUseStore disk era old) (cat : mid.cat ≡ old.cat)
+        (one : ChangesOne (IsSentWhole disk era number descriptor message state) number old.volumes.items mid.volumes.items) (copy : ℕ)
+        (is : IsCommitted disk era to (addition_of number descriptor message one.by.runs ∷ []) mid new copy) where
+      -- a volume, what it was when the object was sent, and before
+      record Before (place : ℕ) (volume : Volume D) : Type 0 where
+        was : Volume D
+        between : Volume D
+        first : slice_get old.volumes.items place ≡ Some was
+        second : slice_get mid.volumes.items place ≡ Some between
+        sent : OneOf (IsSentWhole disk era number descriptor message state) number place was between
+        same : disk_of volume ≡ disk_of between
+        idle : IsIdle between → IsIdle volume
+
+      before : (place : ℕ) (volume : Volume D) → slice_get new.volumes.items place ≡ Some volume → Before place volume
+      before place volume there =
+          let changed = each_of_one (IsSentWhole disk era number descriptor message state) number old.volumes.items mid.volumes.items one in
+          let two = there_too mid.volumes.items new.volumes.items place volume is.returned.count there in
+          let one_ = there_too old.volumes.items mid.volumes.items place two.0 changed.count two.1 in
+          let gave = is.returned.each place two.0 volume two.1 there in
+          record {
+            was = one_.0;
+            between = two.0;
+            first = one_.1;
+            second = two.1;
+            sent = changed.each place one_.0 two.0 one_.1 two.1;
+            same = gave.disk;
+            idle = gave.idle;
+          }
+
+      pub settled_then : IsSettled new
+      settled_then = record {
+        opened = is.opened;
+        idle = λ place volume there.
+            let it = before place volume there in
+            it.idle (⊎_elim (λ here. here.1.idle) (λ other. subst IsIdle (sym other.1) (settled.idle place it.was it.first)) it.sent);
+        holds = λ place volume there.
+            subst (Holds volume)
+            (append-nil (runs_on place (places (objects_of new.cat) [])) ∙ ap (λ (l : List Placed). runs_on place l) (append-nil (map place_of_object (objects_of new.cat))))
+            (is.holds (λ (p : ℕ). []) (held_alone old mid settled cat one) place volume there);
+      }
+
+      pub usable_then : era.number ≤ to.number → to.key ≡ era.key → MayUseStore disk to new
+      usable_then le key = record {
+        cat = is.usable;
+        volumes = λ place volume there.
+            let it = before place volume there in
+            subst (λ (d : D). MayUse to (disk.ledger d)) (sym it.same)
+            (later it.between (⊎_elim (λ here. here.1.may) (λ other. subst (λ (v : Volume D). MayUse era (disk.ledger (disk_of v))) (sym other.1) (may.volumes place it.was it.first)) it.sent));
+      }
+        where
+          later : (volume : Volume D) → MayUse era (disk.ledger (disk_of volume)) → MayUse to (disk.ledger (disk_of volume))
+          later volume was = record { key = was.key ∙ sym key; not_past = (let last = was.not_past in omega (arith, last, le)); synced = was.synced }
+
+    module _ (to : EraView) (old mid new : Store D) (settled : IsSettled old) (may : MayUseStore disk era old) (cat : mid.cat ≡ old.cat)
+        (one : ChangesOne (IsSentWhole disk era number descriptor message state) number old.volumes.items mid.volumes.items) where
+      by_additions : (result : Result ℕ SiteFault) → VoteEnds disk era to (added_in state) mid new result
+          → VoteEnds disk era to (addition_of number descriptor message one.by.runs ∷ []) mid new result
+      by_additions result ends = subst (λ (a : List Addition). VoteEnds disk era to a mid new result) (ap added_in one.by.state_is) ends
+
+      pub settled_on : (result : Result ℕ SiteFault) → VoteEnds disk era to (added_in state) mid new result → OnOk result (IsSettled new)
+      settled_on (Ok copy) ends = settled_then to old mid new settled may cat one copy (by_additions (Ok copy) ends)
+      settled_on (Err fault) ends = tt
+
+      pub usable_on : era.number ≤ to.number → to.key ≡ era.key → (result : Result ℕ SiteFault) → VoteEnds disk era to (added_in state) mid new result
+          → OnOk result (MayUseStore disk to new)
+      usable_on le key (Ok copy) ends = usable_then to old mid new settled may cat one copy (by_additions (Ok copy) ends) le key
+      usable_on le key (Err fault) ends = tt
 
     -- nothing was sent, and the committed objects are held
     pub held_still : (old mid : Store D) → IsSettled old → mid.cat ≡ old.cat

@@ -1,12 +1,14 @@
 -- What the vote on one object that was sent leaves of a store.
 use Rattle.std.specs.Prelude.{◌≡◌, ℕ, suc, ◌+◌, ◌≤◌, IsTrue, List, [], map, Result, Ok, Err}
 use Rattle.site_disk.specs.Causes.{Rose}
-use Rattle.site_disk.specs.Ledger.{EraView}
+use Rattle.site_disk.specs.Ledger.{EraView, MayUse}
 use Rattle.site_disk.specs.Seen.{seen}
 use Rattle.site_disk.specs.declared.disk.Disk.{Ghosts}
-use Rattle.catalogue_journal.specs.Catalogues.{cat_of, spare_of, capacity_of, contents_in, Stands}
+use Rattle.block_chain.specs.declared.runs.Run.{Run}
+use Rattle.catalogue_journal.specs.Catalogues.{cat_of, spare_of, capacity_of, objects_of, contents_in, Stands}
 use Rattle.catalogue_journal.specs.Commits.{Ends}
 use Rattle.catalogue_journal.specs.Transactions.{Addition, ended, slots_wanted}
+use Rattle.object_store.specs.Endings.{places, HoldWith}
 use Rattle.object_store.specs.Returns.{AllGiveBack, place_of_addition}
 use Rattle.object_store.specs.Stores.{IsOpenStore}
 use Rattle.object_store.specs.declared.store.Store.{Store}
@@ -30,6 +32,9 @@ module _ {D : Type 0} (disk : Ghosts D) (from to : EraView) (additions : List Ad
     pub by : IsTrue disk.is_modelled → Stands (seen disk (cat_of mid.cat)) mid.cat → HasCommitted disk to.number [] additions mid new
     pub returned : AllGiveBack disk.is_modelled disk.bytes [] mid.volumes.items new.volumes.items
     pub opened : IsOpenStore new
+    pub holds : (others : ℕ → List (List Run)) → HoldWith (places (objects_of mid.cat) additions) others mid.volumes.items
+        → HoldWith (places (objects_of new.cat) []) others new.volumes.items
+    pub usable : MayUse to (disk.ledger (cat_of new.cat))
 
   -- The vote was refused, and the blocks of the objects went back.
   pub record IsGivenUp : Type 0 where

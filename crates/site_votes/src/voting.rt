@@ -1,5 +1,5 @@
 //! The vote on one object.
-ghost use Rattle.std.specs.Prelude.{◌≡◌, ◌+◌, ◌<◌, ◌≤◌, ◌^◌, ℕ, suc, true, IsTrue, IfOk};
+ghost use Rattle.std.specs.Prelude.{◌≡◌, ◌+◌, ◌<◌, ◌≤◌, ◌^◌, ℕ, suc, true, IsTrue, IfOk, OnOk};
 ghost use Rattle.site_disk.specs.Ledger.{MayUse};
 ghost use Rattle.catalogue_journal.specs.Catalogues.{cat_of, contents_in, objects_of};
 ghost use Rattle.object_store.specs.Endings.{places, HoldAll};
@@ -103,6 +103,8 @@ pub fn vote_on_object<D: Disk>(
     ensures votes { IsTrue D.is_modelled → FreeInOrder site.old.store
         → Votes D.Disk number descriptor.now bytes.now era.old.number era.new.number site.old site.new result }
     ensures copy { IfOk result (λ copy. copy ≡ suc (contents_in site.old.store.cat).last) }
+    ensures settled { OnOk result (IsSettled site.new.store) }
+    ensures usable { OnOk result (MayUseStore D.Disk era.new site.new.store) }
     ensures others { site.new ≡ record site.old { store = site.new.store } }
     ensures eras { era.new.number ≤ era.old.number + 9 }
 {

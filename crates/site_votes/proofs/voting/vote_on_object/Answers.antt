@@ -10,7 +10,7 @@ use Rattle.session_machine.specs.Conditions.{is_broken}
 use Rattle.session_machine.specs.States.{State}
 use Rattle.site_core.specs.declared.faults.SiteFault.{SiteFault}
 use Rattle.site_votes.specs.Sent.{IsSentWhole, HasNoRoom, SendEnds}
-use Rattle.site_votes.proofs.StoreLemmas.{open_changed, at_place, held_sent, held_still}
+use Rattle.site_votes.proofs.StoreLemmas.{open_changed, at_place, held_sent, held_still, settled_on, usable_on}
 use Rattle.site_votes.proofs.VoteLemmas.{lacks_room, votes_then, votes_cut}
 use Rattle.site_votes.proofs.voting.vote_on_object.Goals as goal
 
@@ -114,3 +114,27 @@ returns-clause-votes g c modelled order =
     let mid = c.send_to_store.new.store in
     votes_cut g.D.Disk modelled (λ it f last. g.met.D.Disk.reads_as it f modelled last) c.args.era.now c.args.number c.args.descriptor.now c.args.bytes.now
     c.args.site.now (record c.args.site.now { store = mid }) mid state refl c.send_to_store.ensures.cat c.in-Err.fault c.in-Err.ensures.ends refl
+
+pub returns-in-Ok-true-clause-settled : goal.returns-in-Ok-true-clause-settled
+returns-in-Ok-true-clause-settled g c =
+    let state = state_of c.send_to_store.new.session in
+    let mid = c.send_to_store.new.store in
+    let P = IsSentWhole g.D.Disk c.args.era.now c.args.number c.args.descriptor.now c.args.bytes.now state in
+    let told : c.send_to_store.result ≡ Ok true = cc in
+    let one : ChangesOne P c.args.number c.args.site.now.store.volumes.items mid.volumes.items =
+    subst (λ (r : Result Bool SiteFault). ChangesOne (λ was is. SendEnds g.D.Disk c.args.era.now c.args.number c.args.descriptor.now c.args.bytes.now state was is r) c.args.number
+    c.args.site.now.store.volumes.items mid.volumes.items) told c.send_to_store.ensures.ends in
+    settled_on g.D.Disk c.args.era.now c.args.number c.args.descriptor.now c.args.bytes.now state c.commit_object.new.era c.args.site.now.store mid c.commit_object.new.store
+    c.requires.settled c.requires.era c.send_to_store.ensures.cat one c.commit_object.result c.commit_object.ensures.ends
+
+pub returns-in-Ok-true-clause-usable : goal.returns-in-Ok-true-clause-usable
+returns-in-Ok-true-clause-usable g c =
+    let state = state_of c.send_to_store.new.session in
+    let mid = c.send_to_store.new.store in
+    let P = IsSentWhole g.D.Disk c.args.era.now c.args.number c.args.descriptor.now c.args.bytes.now state in
+    let told : c.send_to_store.result ≡ Ok true = cc in
+    let one : ChangesOne P c.args.number c.args.site.now.store.volumes.items mid.volumes.items =
+    subst (λ (r : Result Bool SiteFault). ChangesOne (λ was is. SendEnds g.D.Disk c.args.era.now c.args.number c.args.descriptor.now c.args.bytes.now state was is r) c.args.number
+    c.args.site.now.store.volumes.items mid.volumes.items) told c.send_to_store.ensures.ends in
+    usable_on g.D.Disk c.args.era.now c.args.number c.args.descriptor.now c.args.bytes.now state c.commit_object.new.era c.args.site.now.store mid c.commit_object.new.store
+    c.requires.settled c.requires.era c.send_to_store.ensures.cat one c.commit_object.ensures.no_earlier c.commit_object.ensures.key c.commit_object.result c.commit_object.ensures.ends
