@@ -1,5 +1,5 @@
 -- The vote on a transaction of one object.
-use Rattle.std.proofs.Common.{◌≡◌, ◌≢◌, ◌⊎◌, ℕ, suc, ◌+◌, ◌<◌, ◌≤◌, IsTrue, Bool, true, false, List, [], ◌∷◌, length, map, Result, Ok, Err, refl, sym, ap, ◌∙◌, subst, arith, ⊎_elim}
+use Rattle.std.proofs.Common.{◌≡◌, ℕ, ◌+◌, ◌≤◌, true, false, List, [], ◌∷◌, map, Result, Err, refl, sym, ap, ◌∙◌, subst}
 use Rattle.std.proofs.lemmas.Bool.{false≢true}
 use Rattle.std.specs.declared.vec.Vec.{Vec}
 use Rattle.site_disk.specs.Causes.{Rose}
@@ -18,10 +18,9 @@ use Rattle.session_machine.specs.Calls.{EndsTxn, AnswersVote}
 use Rattle.session_machine.specs.States.{State, Draft}
 use Rattle.session_machine.specs.declared.answers.BsaRc.{BsaRc}
 use Rattle.session_machine.specs.declared.answers.BsaRc.TheVariants.{Success, InvalidCallSequence, InvalidObjectDescriptor, NoMatch, NoMoreData, ObjectNotFound, InvalidVote, NoResources, AccessFailure, Damaged, OutOfMemory}
-use Rattle.session_machine.specs.declared.answers.Lack.{Lack}
 use Rattle.session_machine.specs.declared.answers.Lack.TheVariants.{Blocks, Slots, Objects}
 use Rattle.session_machine.specs.declared.answers.Access.TheVariants.{Cat, Spare, Volume as VolumeFails, Ends}
-use Rattle.site_votes.specs.Objects.{place_for, addition_of, sent, IsSentIn}
+use Rattle.site_votes.specs.Objects.{place_for, addition_of, IsSentIn}
 use Rattle.site_votes.specs.Sent.{SaysWhy, fault_in_session, says_lack}
 use Rattle.site_votes.specs.Voted.{IsGivenUp, IsCutShort, EndsVote}
 

@@ -1,13 +1,13 @@
 -- Where an object comes to stand.
-use Rattle.std.proofs.Common.{◌≡◌, ℕ, zero, suc, ◌+◌, ◌<◌, ◌≤◌, Bool, true, false, List, [], ◌∷◌, ◌++◌, length, take, refl, sym, ap, ◌∙◌, subst, arith}
+use Rattle.std.proofs.Common.{◌≡◌, ℕ, zero, suc, ◌+◌, ◌<◌, ◌≤◌, Bool, true, false, List, [], ◌∷◌, ◌++◌, length, take, drop, refl, sym, ap, ◌∙◌, subst, arith, zero-add}
 use Rattle.std.proofs.lemmas.Bool.Decides.{nat_tests}
-use Rattle.std.specs.Prelude.{◌==◌, nat_lt, filter, slice_get, Option, None, Some, if◌then◌else◌}
+use Rattle.std.specs.List.{AllByRecursion}
+use Rattle.std.specs.Prelude.{◌==◌, ◌&&◌, nat_lt, filter, slice_get, Option, None, Some, if◌then◌else◌}
 use Rattle.site_disk.specs.declared.disk.Disk.{Ghosts}
 use Rattle.block_chain.specs.Blocks.{times, ascending, blocks_for, blocks_of_runs, AreMaximal, BeginsElsewhere}
 use Rattle.block_chain.specs.declared.runs.Run.{Run}
 use Rattle.catalogue_slots.specs.Records.{Object}
 use Rattle.catalogue_replay.specs.Contents.{Contents}
-use Rattle.catalogue_journal.specs.Catalogues.{objects_of}
 use Rattle.object_volume.specs.Volumes.{free_of, blocks_in}
 use Rattle.object_volume.specs.declared.volume.Volume.{Volume}
 use Rattle.object_store.specs.Holdings.{blocks_of_all}
@@ -19,6 +19,7 @@ use Rattle.site_worlds.specs.Worlds.{Site}
 use Rattle.site_worlds.specs.Objects.{numbers, blocks_on}
 use Rattle.site_courses.specs.NewObjects.{free_blocks, with_block, runs_of, new_runs}
 use Rattle.site_layouts.specs.Stores.{contents_of}
+use Rattle.lane_ways.specs.ListLaws.{filter_all, filter_and}
 use Rattle.site_votes.specs.Stores.{FreeInOrder}
 
 -- runs are the longest ones of their own blocks
@@ -81,7 +82,7 @@ module _ (site : Site) (volume size : ℕ) where
       lacking a b lt = grind (arith, nat_tests, lt)
 
 -- the blocks that aren't among the live ones
-abbrev by_blocks : List ℕ → ℕ → List ℕ
+abbrev pub by_blocks : List ℕ → ℕ → List ℕ
 by_blocks live count = filter (λ block. times block live == 0) (numbers count)
 
 -- the free blocks of a volume, by the site
@@ -93,3 +94,78 @@ free_is disk from store site number volume agrees order there =
     ∙ ap (λ (objects : List Object). by_blocks (blocks_of_all (live_on number objects)) (blocks_in volume)) (ap (λ (c : Contents). c.objects) agrees.contents_are)
     ∙ ap (λ (live : List ℕ). by_blocks live (blocks_in volume)) (same_blocks number site.store.kept)
     ∙ ap (by_blocks (blocks_on number site.store.kept)) (agrees.blocks number volume there)
+
+-- what is left of free blocks
+
+filter_as : (p q : ℕ → Bool) (xs : List ℕ) → ((x : ℕ) → p x ≡ q x) → filter p xs ≡ filter q xs
+filter_as p q [] same = refl
+filter_as p q (x ∷ xs) same =
+    ap (λ (b : Bool). if b then x ∷ filter p xs else filter p xs) (same x)
+    ∙ ap (λ (l : List ℕ). if q x then x ∷ l else l) (filter_as p q xs same)
+
+-- of a list no block stands in any more, each passes
+filter_of : (p q : ℕ → Bool) (xs : List ℕ) → ((x : ℕ) → 0 < times x xs → p x ≡ q x) → filter p xs ≡ filter q xs
+filter_of p q [] same = refl
+filter_of p q (x ∷ xs) same =
+    ap (λ (b : Bool). if b then x ∷ filter p xs else filter p xs) (same x (omega (arith, here x xs)))
+    ∙ ap (λ (l : List ℕ). if q x then x ∷ l else l) (filter_of p q xs (λ y some. same y (omega (arith, some, more y x xs))))
+  where
+    here : (y : ℕ) (ys : List ℕ) → 1 ≤ times y (y ∷ ys)
+    here y ys = let same_one : (y == y) ≡ true = grind (arith, nat_tests) in
+        subst (λ (b : Bool). 1 ≤ (if b then 1 else 0) + times y ys) (sym same_one) (omega arith)
+
+    more : (y z : ℕ) (ys : List ℕ) → times y ys ≤ times y (z ∷ ys)
+    more y z ys = omega arith
+
+pub left_of : (n : ℕ) (xs : List ℕ) → ((block : ℕ) → times block xs ≤ 1) → filter (λ block. times block (take n xs) == 0) xs ≡ drop n xs
+left_of zero xs once = filter_all (λ (block : ℕ). true) xs (all_pass xs)
+  where
+    all_pass : (list : List ℕ) → AllByRecursion (λ block. true ≡ true) list
+    all_pass [] = tt
+    all_pass (x ∷ list) = (refl, all_pass list)
+left_of (suc n) [] once = refl
+left_of (suc n) (x ∷ xs) once =
+    ap (λ (b : Bool). if b then x ∷ filter taken xs else filter taken xs) out
+    ∙ filter_of taken (λ block. times block (take n xs) == 0) xs apart
+    ∙ left_of n xs (λ block. let all = once block in omega (arith, all))
+  where
+    taken : ℕ → Bool
+    taken block = times block (x ∷ take n xs) == 0
+
+    same_one : (x == x) ≡ true
+    same_one = grind (arith, nat_tests)
+
+    no_zero : (k : ℕ) → (1 + k == 0) ≡ false
+    no_zero k = grind (arith, nat_tests)
+
+    out : taken x ≡ false
+    out = ap (λ (b : Bool). (if b then 1 else 0) + times x (take n xs) == 0) same_one ∙ no_zero (times x (take n xs))
+
+    none_more : times x xs ≡ 0
+    none_more = let all = subst (λ (b : Bool). (if b then 1 else 0) + times x xs ≤ 1) same_one (once x) in omega (arith, all)
+
+    apart : (block : ℕ) → 0 < times block xs → taken block ≡ (times block (take n xs) == 0)
+    apart block some = by (x == block) refl
+      where
+        by : (b : Bool) → (x == block) ≡ b → ((if b then 1 else 0) + times block (take n xs) == 0) ≡ (times block (take n xs) == 0)
+        by true is = let same : x ≡ block = grind (arith, nat_tests, is) in
+            absurd (omega (arith, some, subst (λ (k : ℕ). times k xs ≡ 0) same none_more))
+        by false is = ap (λ (k : ℕ). k == 0) (zero-add (times block (take n xs)))
+
+-- the blocks of one object more are taken out
+pub order_behind : (live more taken : List ℕ) (n count : ℕ) → ((block : ℕ) → times block more ≡ times block live + times block taken)
+    → taken ≡ take n (by_blocks live count) → ((block : ℕ) → times block (by_blocks live count) ≤ 1) → by_blocks more count ≡ drop n (by_blocks live count)
+order_behind live more taken n count adds is once =
+    filter_as (λ block. times block more == 0) (λ block. (times block live == 0) && (times block (take n (by_blocks live count)) == 0)) (numbers count)
+    (λ block. both (times block live) (times block taken) (times block more) (adds block)
+    ∙ ap (λ (l : List ℕ). (times block live == 0) && (times block l == 0)) is)
+    ∙ sym (filter_and (λ block. times block live == 0) (λ block. times block (take n (by_blocks live count)) == 0) (numbers count))
+    ∙ left_of n (by_blocks live count) once
+  where
+    both : (a b c : ℕ) → c ≡ a + b → (c == 0) ≡ ((a == 0) && (b == 0))
+    both zero b c sum = ap (λ (k : ℕ). k == 0) (let s : c ≡ b = omega (arith, sum) in s)
+    both (suc a) b c sum = let some : c ≡ suc (a + b) = omega (arith, sum) in
+        ap (λ (k : ℕ). k == 0) some ∙ never (a + b) ∙ sym (ap (λ (t : Bool). t && (b == 0)) (never a))
+      where
+        never : (k : ℕ) → (suc k == 0) ≡ false
+        never k = grind (arith, nat_tests)

@@ -1,5 +1,5 @@
 -- One object that is sent.
-use Rattle.std.proofs.Common.{◌≡◌, ℕ, ◌+◌, ◌-◌, ◌<◌, ◌≤◌, Bool, true, false, IsTrue, List, [], ◌∷◌, ◌++◌, length, take, drop, Some, None, Option, Result, Ok, Err, refl, sym, ap, ◌∙◌, subst, arith}
+use Rattle.std.proofs.Common.{◌≡◌, ℕ, ◌+◌, ◌-◌, ◌≤◌, true, false, IsTrue, List, [], ◌∷◌, ◌++◌, length, take, drop, Some, None, Option, Ok, Err, refl, sym, ap, ◌∙◌, subst, arith}
 use Rattle.std.specs.Prelude.{IfSome}
 use Rattle.site_disk.specs.Causes.{Rose}
 use Rattle.std.proofs.lemmas.Bool.{false≢true}
@@ -24,7 +24,6 @@ use Rattle.session_machine.specs.declared.answers.BsaRc.TheVariants.{Success, In
 use Rattle.session_machine.specs.declared.answers.Lack.TheVariants.{Blocks, Slots, Objects}
 use Rattle.session_machine.specs.declared.answers.Access.TheVariants.{Cat, Spare, Volume as VolumeFails, Ends}
 use Rattle.store_calls.specs.Transactions.{WritesFree}
-use Rattle.store_calls.specs.SendingLaws.{writes_again}
 use Rattle.site_votes.specs.Objects.{place_for, under_way, sent}
 use Rattle.site_votes.specs.Sent.{SaysWhy, fault_in_session, says_lack, IsSentWhole, EndsIn}
 

@@ -1,28 +1,32 @@
 -- A store whose volumes have changed at one place, and what it agrees with then.
-use Rattle.std.proofs.Common.{◌≡◌, ◌≢◌, ◌⊎◌, ℕ, ◌+◌, ◌<◌, ◌≤◌, Bool, true, false, nat_eq, IsTrue, List, [], ◌∷◌, ◌++◌, length, get_or, map, Some, Result, Ok, Err, refl, sym, ap, ◌∙◌, subst, arith, inl, inr, ⊎_elim, eq-eqb, ne_eqb, length-set}
-use Rattle.std.proofs.lemmas.Bool.{cases_eq}
-use Rattle.std.proofs.lemmas.List.{append-nil}
+use Rattle.std.proofs.Common.{◌≡◌, ◌≢◌, ◌⊎◌, ℕ, suc, ◌<◌, ◌≤◌, IsTrue, List, [], ◌∷◌, ◌++◌, length, get_or, take, drop, map, Some, Result, Ok, Err, refl, sym, ap, ◌∙◌, subst, arith, inl, inr, ⊎_elim, length-set}
+use Rattle.std.proofs.lemmas.Bool.{cases_eq, cases_lt}
+use Rattle.std.proofs.lemmas.List.{append-nil, map-append}
+use Rattle.std.proofs.lemmas.Grind.{flat_map-append}
 use Rattle.std.proofs.lemmas.Option.{slice_get_within, slice_get-get_or}
 use Rattle.std.specs.Prelude.{slice_get, OnOk}
 use Rattle.site_disk.specs.Ledger.{EraView, MayUse}
 use Rattle.site_disk.specs.Seen.{seen}
 use Rattle.site_disk.specs.declared.disk.Disk.{Ghosts}
+use Rattle.block_chain.specs.Blocks.{times, blocks_for, blocks_of_runs}
+use Rattle.block_chain.specs.BlocksLaws.{times-append}
 use Rattle.block_chain.specs.declared.runs.Run.{Run}
 use Rattle.bsa_descriptor.specs.declared.descriptor.Descriptor.{Descriptor}
 use Rattle.catalogue_replay.specs.Contents.{Contents}
 use Rattle.catalogue_journal.specs.Catalogues.{cat_of, spare_of, capacity_of, used_of, objects_of, contents_in, IsOpen as IsOpenCatalogue, Stands}
-use Rattle.catalogue_journal.specs.Transactions.{Addition}
+use Rattle.catalogue_journal.specs.Transactions.{Addition, objects_from}
 use Rattle.catalogue_journal.specs.declared.catalogue.Catalogue.{Catalogue}
 use Rattle.bsa_session.specs.Voting.{added_in, DropsSent}
 use Rattle.object_store.specs.Endings.{places, HoldAll, HoldWith}
-use Rattle.object_store.specs.Holdings.{Holds}
+use Rattle.object_store.specs.Holdings.{Holds, blocks_of_all}
 use Rattle.object_store.specs.Reading.{ChangesOne}
 use Rattle.object_store.specs.Returns.{Placed, place_of_addition, place_of_object, runs_on, AllGiveBack, Cancels}
-use Rattle.object_store.specs.Stores.{OfEach, IsOpenStore, IsOpenAt}
+use Rattle.object_store.specs.Stores.{IsOpenStore, IsOpenAt}
 use Rattle.object_store.specs.declared.store.Store.{Store}
 use Rattle.object_store.proofs.DeletedLemmas.{holds_swapped}
 use Rattle.object_store.proofs.ReturnLemmas.{one_value, runs_on-append, runs_on-here, runs_on-elsewhere, slice_get-set_same, slice_get-set_other}
-use Rattle.object_volume.specs.Volumes.{disk_of, number_of, blocks_in, IsOpen, IsIdle}
+use Rattle.object_volume.specs.Volumes.{disk_of, number_of, blocks_in, blocks_sent, free_of, IsOpen, IsIdle}
+use Rattle.site_votes.proofs.OrderLemmas.{by_blocks, order_behind}
 use Rattle.object_volume.specs.declared.volume.Volume.{Volume}
 use Rattle.session_machine.specs.States.{State, new_draft}
 use Rattle.site_headers.specs.Areas.{slot_count}
@@ -34,7 +38,7 @@ use Rattle.store_opening.specs.Opening.{live_on}
 use Rattle.store_opening.specs.Standing.{Agrees, IsBehind}
 use Rattle.site_votes.specs.Objects.{place_for, addition_of}
 use Rattle.site_votes.specs.Sent.{IsSentWhole, HasNoRoom}
-use Rattle.site_votes.specs.Stores.{IsSettled, MayUseStore}
+use Rattle.site_votes.specs.Stores.{FreeInOrder, IsSettled, MayUseStore}
 use Rattle.site_votes.specs.Voted.{IsCommitted, VoteEnds}
 use Rattle.site_core.specs.declared.faults.SiteFault.{SiteFault}
 
@@ -319,13 +323,17 @@ module _ {D : Type 0} (disk : Ghosts D) where
         between : Volume D
         first : slice_get old.volumes.items place ≡ Some was
         second : slice_get mid.volumes.items place ≡ Some between
-        sent : OneOf (IsSentWhole disk era number descriptor message state) number place was between
+        sent : OneOf (SentIn one.by.runs) number place was between
+        free : free_of volume ≡ free_of between
+        count : blocks_in volume ≡ blocks_in between
         same : disk_of volume ≡ disk_of between
         idle : IsIdle between → IsIdle volume
 
       before : (place : ℕ) (volume : Volume D) → slice_get new.volumes.items place ≡ Some volume → Before place volume
       before place volume there =
-          let changed = each_of_one (IsSentWhole disk era number descriptor message state) number old.volumes.items mid.volumes.items one in
+          let sharp : ChangesOne (SentIn one.by.runs) number old.volumes.items mid.volumes.items =
+          record { was = one.was; is = one.is; there = one.there; changed = one.changed; by = (one.by, refl) } in
+          let changed = each_of_one (SentIn one.by.runs) number old.volumes.items mid.volumes.items sharp in
           let two = there_too mid.volumes.items new.volumes.items place volume is.returned.count there in
           let one_ = there_too old.volumes.items mid.volumes.items place two.0 changed.count two.1 in
           let gave = is.returned.each place two.0 volume two.1 there in
@@ -337,6 +345,8 @@ module _ {D : Type 0} (disk : Ghosts D) where
             sent = changed.each place one_.0 two.0 one_.1 two.1;
             same = gave.disk;
             idle = gave.idle;
+            free = gave.free ∙ append-nil (free_of two.0);
+            count = gave.count;
           }
 
       pub settled_then : IsSettled new
@@ -344,7 +354,7 @@ module _ {D : Type 0} (disk : Ghosts D) where
         opened = is.opened;
         idle = λ place volume there.
             let it = before place volume there in
-            it.idle (⊎_elim (λ here. here.1.idle) (λ other. subst IsIdle (sym other.1) (settled.idle place it.was it.first)) it.sent);
+            it.idle (⊎_elim (λ here. here.1.0.idle) (λ other. subst IsIdle (sym other.1) (settled.idle place it.was it.first)) it.sent);
         holds = λ place volume there.
             subst (Holds volume)
             (append-nil (runs_on place (places (objects_of new.cat) [])) ∙ ap (λ (l : List Placed). runs_on place l) (append-nil (map place_of_object (objects_of new.cat))))
@@ -357,11 +367,65 @@ module _ {D : Type 0} (disk : Ghosts D) where
         volumes = λ place volume there.
             let it = before place volume there in
             subst (λ (d : D). MayUse to (disk.ledger d)) (sym it.same)
-            (later it.between (⊎_elim (λ here. here.1.may) (λ other. subst (λ (v : Volume D). MayUse era (disk.ledger (disk_of v))) (sym other.1) (may.volumes place it.was it.first)) it.sent));
+            (later it.between (⊎_elim (λ here. here.1.0.may) (λ other. subst (λ (v : Volume D). MayUse era (disk.ledger (disk_of v))) (sym other.1) (may.volumes place it.was it.first)) it.sent));
       }
         where
           later : (volume : Volume D) → MayUse era (disk.ledger (disk_of volume)) → MayUse to (disk.ledger (disk_of volume))
           later volume was = record { key = was.key ∙ sym key; not_past = (let last = was.not_past in omega (arith, last, le)); synced = was.synced }
+
+      -- what is live on a volume then
+      live_then : (place : ℕ) → live_on place (objects_of new.cat)
+          ≡ live_on place (objects_of old.cat) ++ runs_on place (place_of_addition (addition_of number descriptor message one.by.runs) ∷ [])
+      live_then place =
+          ap (λ (c : Contents). live_on place c.objects) is.contents
+          ∙ ap (runs_on place) (map-append place_of_object (objects_of mid.cat) (objects_from (suc (contents_in mid.cat).last) (addition_of number descriptor message one.by.runs ∷ [])))
+          ∙ runs_on-append place (map place_of_object (objects_of mid.cat)) (place_of_addition (addition_of number descriptor message one.by.runs) ∷ [])
+          ∙ ap (λ (c : Catalogue D). live_on place (objects_of c) ++ runs_on place (place_of_addition (addition_of number descriptor message one.by.runs) ∷ [])) cat
+
+      abbrev live_blocks : ℕ → Store D → List ℕ
+      live_blocks place store = blocks_of_all (live_on place (objects_of store.cat))
+
+      -- no block is free twice
+      free_once : (place : ℕ) (volume : Volume D) → slice_get old.volumes.items place ≡ Some volume → (block : ℕ) → times block (free_of volume) ≤ 1
+      free_once place volume there block = ⊎_elim
+          (λ some. let whole = times-append block (free_of volume) (blocks_sent volume ++ live_blocks place old) in
+          let parted = (settled.holds place volume there).parted in
+          let below = parted.below block (omega (arith, some, whole)) in
+          omega (arith, whole, parted.each block below))
+          (λ none. omega (arith, none))
+          (cases_lt 0 (times block (free_of volume)))
+
+      pub order_then : IsTrue disk.is_modelled → FreeInOrder old → FreeInOrder new
+      order_then tells order place volume there = by it.sent
+        where
+          it : Before place volume
+          it = before place volume there
+
+          ordered : free_of it.was ≡ by_blocks (live_blocks place old) (blocks_in it.was)
+          ordered = order place it.was it.first
+
+          by : OneOf (SentIn one.by.runs) number place it.was it.between → free_of volume ≡ by_blocks (live_blocks place new) (blocks_in volume)
+          by (inl here) =
+              let runs = one.by.runs in
+              let size = blocks_for (length message) in
+              let live : live_blocks place new ≡ live_blocks place old ++ blocks_of_runs runs =
+              ap blocks_of_all (live_then place ∙ ap (λ (l : List (List Run)). live_on place (objects_of old.cat) ++ l) (runs_here number place runs here.0))
+              ∙ flat_map-append blocks_of_runs (live_on place (objects_of old.cat)) (runs ∷ [])
+              ∙ ap (λ (l : List ℕ). live_blocks place old ++ l) (append-nil (blocks_of_runs runs)) in
+              let stands : blocks_of_runs runs ≡ take size (by_blocks (live_blocks place old) (blocks_in it.was)) =
+              ap blocks_of_runs (sym here.1.1) ∙ here.1.0.stands ∙ ap (λ (l : List ℕ). take size l) ordered in
+              it.free ∙ here.1.0.left ∙ ap (λ (l : List ℕ). drop size l) ordered
+              ∙ sym (order_behind (live_blocks place old) (live_blocks place new) (blocks_of_runs runs) size (blocks_in it.was)
+              (λ block. ap (times block) live ∙ times-append block (live_blocks place old) (blocks_of_runs runs)) stands
+              (λ block. subst (λ (l : List ℕ). times block l ≤ 1) ordered (free_once place it.was it.first block)))
+              ∙ ap (by_blocks (live_blocks place new)) (sym (it.count ∙ here.1.0.blocks tells))
+          by (inr other) =
+              let live : live_blocks place old ≡ live_blocks place new =
+              sym (ap blocks_of_all (live_then place ∙ ap (λ (l : List (List Run)). live_on place (objects_of old.cat) ++ l) (runs_elsewhere number place one.by.runs other.0)
+              ∙ append-nil (live_on place (objects_of old.cat)))) in
+              it.free ∙ ap free_of other.1 ∙ ordered
+              ∙ ap (λ (l : List ℕ). by_blocks l (blocks_in it.was)) live
+              ∙ ap (by_blocks (live_blocks place new)) (sym (it.count ∙ ap blocks_in other.1))
 
     module _ (to : EraView) (old mid new : Store D) (settled : IsSettled old) (may : MayUseStore disk era old) (cat : mid.cat ≡ old.cat)
         (one : ChangesOne (IsSentWhole disk era number descriptor message state) number old.volumes.items mid.volumes.items) where
@@ -372,6 +436,11 @@ module _ {D : Type 0} (disk : Ghosts D) where
       pub settled_on : (result : Result ℕ SiteFault) → VoteEnds disk era to (added_in state) mid new result → OnOk result (IsSettled new)
       settled_on (Ok copy) ends = settled_then to old mid new settled may cat one copy (by_additions (Ok copy) ends)
       settled_on (Err fault) ends = tt
+
+      pub order_on : IsTrue disk.is_modelled → FreeInOrder old → (result : Result ℕ SiteFault) → VoteEnds disk era to (added_in state) mid new result
+          → OnOk result (FreeInOrder new)
+      order_on tells order (Ok copy) ends = order_then to old mid new settled may cat one copy (by_additions (Ok copy) ends) tells order
+      order_on tells order (Err fault) ends = tt
 
       pub usable_on : era.number ≤ to.number → to.key ≡ era.key → (result : Result ℕ SiteFault) → VoteEnds disk era to (added_in state) mid new result
           → OnOk result (MayUseStore disk to new)

@@ -1,5 +1,5 @@
 -- The vote on one object as a call of a site.
-use Rattle.std.proofs.Common.{◌≡◌, ◌≢◌, ℕ, suc, ◌+◌, ◌<◌, ◌≤◌, IsTrue, true, List, [], ◌∷◌, ◌++◌, length, take, map, Option, None, Some, Result, Ok, Err, refl, sym, ap, ◌∙◌, subst, arith, inl, inr, ⊎_elim}
+use Rattle.std.proofs.Common.{◌≡◌, ℕ, suc, ◌+◌, ◌<◌, ◌≤◌, IsTrue, true, List, [], ◌∷◌, length, take, Option, None, Some, Result, Ok, Err, refl, sym, ap, ◌∙◌, subst, arith, ⊎_elim}
 use Rattle.std.specs.Prelude.{slice_get}
 use Rattle.std.proofs.lemmas.Option.{slice_get_within}
 use Rattle.std.specs.declared.vec.Vec.{Vec}
@@ -9,7 +9,7 @@ use Rattle.site_disk.specs.ImagesLaws.{begins}
 use Rattle.site_disk.specs.Ledger.{EraView}
 use Rattle.site_disk.specs.Seen.{seen}
 use Rattle.site_disk.specs.declared.disk.Disk.{Ghosts}
-use Rattle.block_chain.specs.Blocks.{blocks_for, blocks_of_runs}
+use Rattle.block_chain.specs.Blocks.{blocks_for}
 use Rattle.block_chain.specs.declared.runs.Run.{Run}
 use Rattle.bsa_descriptor.specs.declared.descriptor.Descriptor.{Descriptor}
 use Rattle.catalogue_replay.specs.Contents.{Contents}
@@ -27,12 +27,11 @@ use Rattle.object_volume.specs.ObjectsLaws.{spares_none}
 use Rattle.object_volume.specs.Volumes.{disk_of, free_of, open_blocks}
 use Rattle.object_volume.specs.declared.volume.Volume.{Volume}
 use Rattle.session_machine.specs.States.{State, new_draft}
-use Rattle.walks.specs.Courses.{Call, Does, make, only}
-use Rattle.site_worlds.specs.Worlds.{Kept, Site}
-use Rattle.site_worlds.specs.Moves.{commit_objects}
+use Rattle.walks.specs.Courses.{Call, Does, only}
+use Rattle.site_worlds.specs.Worlds.{Kept}
 use Rattle.site_courses.specs.Faults.{Fault, cuts, store_full, catalogue_full, too_many_objects, cut_short}
 use Rattle.site_courses.specs.NewObjects.{free_blocks, new_runs}
-use Rattle.site_layouts.specs.Stages.{site_stage, HeldSite, StandsFor}
+use Rattle.site_layouts.specs.Stages.{site_stage, HeldSite}
 use Rattle.site_layouts.specs.Stores.{contents_of}
 use Rattle.site_core.specs.Calls.{CallFrom}
 use Rattle.site_core.specs.Layers.{layers}
@@ -40,7 +39,6 @@ use Rattle.site_core.specs.declared.site.Site.{Site as Values}
 use Rattle.store_calls.specs.SendLaws.{there_too}
 use Rattle.store_calls.specs.SendingLaws.{one_is_sent}
 use Rattle.store_calls.specs.SessionLaws.{session_agrees}
-use Rattle.store_calls.specs.Sessions.{HasSent}
 use Rattle.store_calls.specs.Transactions.{ReadsAsImages, WritesFree, OnlySends, Transacts, AgreesBehind}
 use Rattle.store_calls.specs.VoteCalls.{sends_ends, sends_fails, transaction_done, transaction_fails}
 use Rattle.store_opening.specs.Disks.{EachFrom}

@@ -1,5 +1,5 @@
 -- What a vote on one object leaves of a store and of a site.
-use Rattle.std.specs.Prelude.{◌≡◌, ℕ, ◌+◌, ◌==◌, ◌≤◌, IsTrue, List, filter, length, Result, Ok, Err, Some}
+use Rattle.std.specs.Prelude.{◌≡◌, ℕ, ◌==◌, List, filter, Result, Err, Some}
 use Rattle.site_disk.specs.Ledger.{EraView, MayUse}
 use Rattle.site_disk.specs.declared.disk.Disk.{Ghosts}
 use Rattle.block_chain.specs.Blocks.{times}

@@ -28,6 +28,7 @@ module _ {D : Type 0} (disk : Ghosts D) (from to : EraView) (additions : List Ad
   pub record IsCommitted (copy : ℕ) : Type 0 where
     pub copy_is : copy ≡ suc (contents_in mid.cat).last
     pub later : from.number + 1 ≤ to.number
+    pub contents : contents_in new.cat ≡ ended [] additions (contents_in mid.cat)
     pub may : MayHaveCommitted
     pub by : IsTrue disk.is_modelled → Stands (seen disk (cat_of mid.cat)) mid.cat → HasCommitted disk to.number [] additions mid new
     pub returned : AllGiveBack disk.is_modelled disk.bytes [] mid.volumes.items new.volumes.items

@@ -104,6 +104,7 @@ pub fn vote_on_object<D: Disk>(
         → Votes D.Disk number descriptor.now bytes.now era.old.number era.new.number site.old site.new result }
     ensures copy { IfOk result (λ copy. copy ≡ suc (contents_in site.old.store.cat).last) }
     ensures settled { OnOk result (IsSettled site.new.store) }
+    ensures order { IsTrue D.is_modelled → FreeInOrder site.old.store → OnOk result (FreeInOrder site.new.store) }
     ensures usable { OnOk result (MayUseStore D.Disk era.new site.new.store) }
     ensures others { site.new ≡ record site.old { store = site.new.store } }
     ensures eras { era.new.number ≤ era.old.number + 9 }

@@ -1,7 +1,6 @@
-use Rattle.std.proofs.Common.{◌≡◌, ℕ, ◌≤◌, ◌∙◌, ◌++◌, Bool, true, false, List, [], length, Ok, Err, refl, sym, ap, subst, arith}
+use Rattle.std.proofs.Common.{◌≡◌, ℕ, ◌≤◌, ◌∙◌, ◌++◌, true, List, [], length, Err, refl, sym, ap, subst, arith}
 use Rattle.site_core.proofs.FaultLemmas.{rose_later}
 use Rattle.site_disk.specs.Ledger.{MayUse}
-use Rattle.block_chain.specs.Blocks.{blocks_for}
 use Rattle.object_store.specs.Holdings.{Holds}
 use Rattle.object_volume.specs.Volumes.{disk_of, free_of, blocks_in, blocks_sent}
 use Rattle.object_volume.specs.declared.volume.Volume.{Volume}
@@ -10,7 +9,6 @@ use Rattle.session_machine.specs.Calls.{SendsPiece}
 use Rattle.session_machine.specs.States.{State, is_sending, new_draft}
 use Rattle.session_machine.specs.declared.answers.BsaRc.{BsaRc}
 use Rattle.session_machine.specs.declared.answers.BsaRc.TheVariants.{Success}
-use Rattle.site_core.specs.declared.faults.SiteFault.{SiteFault}
 use Rattle.site_votes.specs.Objects.{place_for, under_way}
 use Rattle.site_votes.specs.Sent.{EndsIn, says_lack}
 use Rattle.site_votes.proofs.SendLemmas.{piece_lacks, end_ends, sent_whole, for_none, leaves_both, writes_from, may_after}

@@ -1,4 +1,4 @@
-use Rattle.std.proofs.Common.{◌≡◌, ℕ, ◌+◌, Bool, false, List, Err, refl, sym, ap, subst}
+use Rattle.std.proofs.Common.{◌≡◌, ℕ, ◌+◌, false, List, Err, refl, sym, ap, subst}
 use Rattle.catalogue_journal.specs.Catalogues.{cat_of, spare_of, capacity_of, used_of, contents_in}
 use Rattle.catalogue_journal.specs.Commits.{Ends}
 use Rattle.catalogue_journal.specs.Transactions.{ended, slots_wanted}

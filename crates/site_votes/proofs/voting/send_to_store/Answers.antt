@@ -1,4 +1,4 @@
-use Rattle.std.proofs.Common.{◌≡◌, ℕ, ◌<◌, length, slice_set, ap, arith}
+use Rattle.std.proofs.Common.{ℕ, ◌<◌, length, slice_set, ap, arith}
 use Rattle.site_votes.proofs.StoreLemmas.{there_of}
 use Rattle.site_votes.proofs.voting.send_to_store.Goals as goal
 

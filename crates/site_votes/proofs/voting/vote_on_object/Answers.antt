@@ -1,16 +1,15 @@
-use Rattle.std.proofs.Common.{◌≡◌, ℕ, ◌≤◌, ◌∙◌, Bool, true, false, List, Result, Ok, Err, refl, sym, ap, subst, arith}
+use Rattle.std.proofs.Common.{◌≡◌, Bool, true, false, List, Result, Ok, refl, sym, ap, subst}
 use Rattle.catalogue_journal.specs.Catalogues.{objects_of}
 use Rattle.catalogue_journal.specs.Transactions.{Addition}
 use Rattle.object_store.specs.Endings.{places, HoldAll}
 use Rattle.object_store.specs.Reading.{ChangesOne}
-use Rattle.object_volume.specs.declared.volume.Volume.{Volume}
 use Rattle.bsa_session.specs.Sessions.{state_of, Suits}
 use Rattle.bsa_session.specs.Voting.{added_in, Drops, IsOn}
 use Rattle.session_machine.specs.Conditions.{is_broken}
 use Rattle.session_machine.specs.States.{State}
 use Rattle.site_core.specs.declared.faults.SiteFault.{SiteFault}
 use Rattle.site_votes.specs.Sent.{IsSentWhole, HasNoRoom, SendEnds}
-use Rattle.site_votes.proofs.StoreLemmas.{open_changed, at_place, held_sent, held_still, settled_on, usable_on}
+use Rattle.site_votes.proofs.StoreLemmas.{open_changed, at_place, held_sent, held_still, settled_on, order_on, usable_on}
 use Rattle.site_votes.proofs.VoteLemmas.{lacks_room, votes_then, votes_cut}
 use Rattle.site_votes.proofs.voting.vote_on_object.Goals as goal
 
@@ -138,3 +137,15 @@ returns-in-Ok-true-clause-usable g c =
     c.args.site.now.store.volumes.items mid.volumes.items) told c.send_to_store.ensures.ends in
     usable_on g.D.Disk c.args.era.now c.args.number c.args.descriptor.now c.args.bytes.now state c.commit_object.new.era c.args.site.now.store mid c.commit_object.new.store
     c.requires.settled c.requires.era c.send_to_store.ensures.cat one c.commit_object.ensures.no_earlier c.commit_object.ensures.key c.commit_object.result c.commit_object.ensures.ends
+
+pub returns-in-Ok-true-clause-order : goal.returns-in-Ok-true-clause-order
+returns-in-Ok-true-clause-order g c modelled order =
+    let state = state_of c.send_to_store.new.session in
+    let mid = c.send_to_store.new.store in
+    let P = IsSentWhole g.D.Disk c.args.era.now c.args.number c.args.descriptor.now c.args.bytes.now state in
+    let told : c.send_to_store.result ≡ Ok true = cc in
+    let one : ChangesOne P c.args.number c.args.site.now.store.volumes.items mid.volumes.items =
+    subst (λ (r : Result Bool SiteFault). ChangesOne (λ was is. SendEnds g.D.Disk c.args.era.now c.args.number c.args.descriptor.now c.args.bytes.now state was is r) c.args.number
+    c.args.site.now.store.volumes.items mid.volumes.items) told c.send_to_store.ensures.ends in
+    order_on g.D.Disk c.args.era.now c.args.number c.args.descriptor.now c.args.bytes.now state c.commit_object.new.era c.args.site.now.store mid c.commit_object.new.store
+    c.requires.settled c.requires.era c.send_to_store.ensures.cat one modelled order c.commit_object.result c.commit_object.ensures.ends
