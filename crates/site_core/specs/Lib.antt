@@ -1,4 +1,5 @@
 pub mod Disks
+pub mod DisksLaws
 pub mod Faults
 pub mod Agreements
 pub mod Layers

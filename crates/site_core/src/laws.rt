@@ -1,5 +1,8 @@
 //! The laws, each as the contract of a function.
-ghost use Rattle.std.specs.Prelude.{◌≡◌, ◌+◌, ◌^◌, ◌≤◌, ◌∷◌, [], ℕ, List, Option, None, Some, length};
+ghost use Rattle.std.specs.Prelude.{◌≡◌, ◌+◌, ◌^◌, ◌≤◌, ◌∷◌, [], ℕ, List, Option, None, Some, length, All};
+ghost use Rattle.site_disk.specs.Ledger.{MayUse};
+ghost use Rattle.site_model.specs.declared.disk_name.DiskName.{DiskName};
+ghost use Rattle.site_core.specs.Disks.{disk_given, disk_named, MayUseAll};
 ghost use Rattle.log_history.specs.History.{LogEntry};
 ghost use Rattle.log_history.specs.Transactions.{table_of};
 ghost use Rattle.log_files.specs.Files.{LogFiles, end_of};
@@ -18,6 +21,9 @@ ghost use Rattle.course_laws.specs.AppendingLaws.{IsReadyFor};
 ghost use Rattle.ring_laws.specs.Rings.{files_of};
 ghost use Rattle.ring_laws.specs.RoomLaws.{oldest_begin, room_in};
 ghost use Rattle.site_core.specs.Appending.{MayMake, TakesBatch, batch_moves, next_batch_moves};
+
+use crate::site::{Site, SiteDisks};
+use site_disk::{Disk, Era};
 
 /// Where a batch may come to a fit site, what its log answers on room, asked with the oldest open Begin, is the whole history's answer.
 pub fn the_log_answers_for_the_whole_history()
@@ -49,4 +55,12 @@ pub fn no_batch_loses_a_lane()
 #[tactic(auto, using(crate::specs::AppendLaws::next_positions))]
 pub fn the_next_file_has_positions()
     ensures { (files : LogFiles) (count : ℕ) (low : Option (ℕ × ℕ)) (drops : Option ℕ) → room_of files count low ≡ TheNext drops → end_of files + count ≤ 2 ^ 48 }
+{}
+
+/// A site over disks that may be used may be used.
+pub fn a_site_may_be_used_over_its_disks<D: Disk>(era: &Era, site: &Site<D>, disks: &SiteDisks<D>)
+    ensures { ((name : DiskName) → disk_named site.now name ≡ disk_given disks.now name)
+        → MayUse era.now (D.ledger disks.now.cat) → MayUse era.now (D.ledger disks.now.spare) → MayUse era.now (D.ledger disks.now.boot)
+        → MayUse era.now (D.ledger disks.now.log) → All (λ it. MayUse era.now (D.ledger it)) disks.now.volumes.items
+        → All (λ it. MayUse era.now (D.ledger it)) disks.now.chunks.items → MayUseAll D.Disk era.now site.now }
 {}
