@@ -12,7 +12,7 @@ use Rattle.hex.proofs.HexLemmas.{decode_of-ok}
 use Rattle.onbar_grammar.specs.declared.Why.TheVariants.{Words}
 use Rattle.onbar_grammar.specs.Numbers.{number, number_within}
 use Rattle.onbar_grammar.specs.Script.{is_token}
-use Rattle.onbar_grammar.specs.Words.{parted_at}
+use Rattle.onbar_grammar.specs.Parts.{parted_at}
 use Rattle.onbar_grammar.proofs.DigitLemmas.{number_within-Some}
 use Rattle.bsa_lines.specs.declared.settings.TextField.{TextField}
 use Rattle.bsa_lines.specs.Operands.{wide_number, copy_id, sent_bytes, copy_type_word, object_type_word, status_word}

@@ -8,7 +8,7 @@ use Rattle.onbar_grammar.specs.declared.Why.{Why}
 use Rattle.onbar_grammar.specs.declared.Why.TheVariants.{Words}
 use Rattle.onbar_grammar.specs.Numbers.{number_within}
 use Rattle.onbar_grammar.specs.Script.{is_token}
-use Rattle.onbar_grammar.specs.Words.{parted_at}
+use Rattle.onbar_grammar.specs.Parts.{parted_at}
 use Rattle.bsa_lines.specs.declared.settings.TextField.{TextField}
 use Rattle.bsa_lines.specs.declared.settings.TextField.TheVariants.{BsaOwner, AppOwner, Space, Path, Resource, Description, Info}
 use Rattle.bsa_lines.specs.Operands.{wide_number, copy_id, sent_bytes, copy_type_word, object_type_word, status_word}

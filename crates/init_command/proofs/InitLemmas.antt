@@ -6,7 +6,7 @@ use Rattle.std.specs.Option.{option_map}
 use Rattle.std.proofs.lemmas.Bool.{leb-false, ltb-false}
 use Rattle.std.proofs.lemmas.List.{length-map}
 use Rattle.std.proofs.lemmas.Option.{slice_get_past}
-use Rattle.onbar_grammar.specs.Words.{CommandForm, init_form}
+use Rattle.command_grammar.specs.Words.{CommandForm, init_form}
 use Rattle.site_disk.specs.Images.{OnlyAfter}
 use Rattle.site_disk.specs.declared.disk.Disk.{Ghosts}
 use Rattle.walks.specs.Follows.{Ends, Follows, Goes}

@@ -1,6 +1,6 @@
 //! The form that formats a site.
 ghost use Rattle.std.specs.Prelude.{◌≡◌, ◌⊎◌, ◌+◌, ◌≤◌, ◌^◌, ℕ, List, IsTrue, IfOk, OnOk, IfErr, IsErrOf};
-ghost use Rattle.onbar_grammar.specs.Words.{init_form};
+ghost use Rattle.command_grammar.specs.Words.{init_form};
 ghost use Rattle.site_disk.specs.Causes.{Rose};
 ghost use Rattle.site_headers.specs.Heads.{IsHead};
 ghost use Rattle.site_headers.specs.Views.{spaces_of};

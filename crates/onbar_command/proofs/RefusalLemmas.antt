@@ -1,7 +1,7 @@
 -- What a command answers, by what its form came to.
 use Rattle.std.specs.Prelude.{IfErr, OnOk}
 use Rattle.std.proofs.Common.{◌≡◌, ◌⊎◌, ⊎_elim, inl, inr, ℕ, List, [], ◌++◌, Result, Ok, Err, IfOk, refl, sym, ◌∙◌, ap, subst}
-use Rattle.onbar_grammar.specs.Words.{Command, command_of}
+use Rattle.command_grammar.specs.Words.{Command, command_of}
 use Rattle.site_model.specs.declared.disk_name.DiskName.{DiskName}
 use Rattle.site_model.specs.declared.status.Status.{Status}
 use Rattle.site_model.specs.declared.status.Status.TheVariants.{Ok as Done, OutOfMemory, ReadFault, WriteFault, DiskFault, Usage, NotFormatted, AlreadyFormatted, BadRecord, NoSuchSpace, NoSuchPage, NeedsRestart, ChunkLost, LogLost}

@@ -1,6 +1,6 @@
 -- The promise on stops, over disks that keep the laws of images.
 use Rattle.std.proofs.Common.{inl, ℕ, ◌<◌, ◌≤◌, List, [], Option, None, Some, Result, Err, refl, sym, subst, arith}
-use Rattle.onbar_grammar.specs.Words.{Command}
+use Rattle.command_grammar.specs.Words.{Command}
 use Rattle.site_disk.specs.declared.disk.Disk.{Ghosts}
 use Rattle.site_disk.specs.Ledger.{EraView}
 use Rattle.site_worlds.specs.Fitness.{IsFit}

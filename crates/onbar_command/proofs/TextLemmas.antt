@@ -2,7 +2,7 @@
 use Rattle.std.specs.Prelude.{IsErrOf, IsTrue}
 use Rattle.std.proofs.Common.{◌≡◌, ◌⊎◌, ⊎_elim, Bool, inl, inr, ℕ, List, [], ◌∷◌, ◌++◌, length, take, drop, Result, Ok, Err, refl, sym, ◌∙◌, ap, subst, arith}
 use Rattle.std.proofs.lemmas.List.{take-append-drop, append-nil, length-take-le}
-use Rattle.onbar_grammar.specs.Words.{Command}
+use Rattle.command_grammar.specs.Words.{Command}
 use Rattle.site_disk.specs.declared.disk.Disk.{Ghosts}
 use Rattle.site_model.specs.declared.status.Status.{Status}
 use Rattle.site_model.specs.declared.status.Status.TheVariants.{OutOfMemory, ReadFault, WriteFault, DiskFault, Usage}

@@ -1,11 +1,10 @@
 -- What the words of a command say of its run.
 use Rattle.std.proofs.Common.{◌≡◌, ◌⊎◌, inl, inr, ℕ, ◌≤◌, ◌^◌, List, Result, Ok, Err, Option, true, refl, ap, subst, sym, arith, ⊎_elim, ◌∙◌}
 use Rattle.std.specs.Prelude.{IfErr}
-use Rattle.onbar_grammar.specs.Words.{Command, command_of, show_form, transactions_form}
+use Rattle.command_grammar.specs.Words.{Command, command_of, show_form, transactions_form, is_transactions}
 use Rattle.site_model.specs.declared.status.Status.{Status}
 use Rattle.site_model.specs.declared.status.Status.TheVariants.{Usage, BadRecord}
 use Rattle.site_model.specs.declared.disk_name.DiskName.TheVariants.{Log, Chunk}
-use Rattle.site_model.specs.Runs.{is_transactions}
 use Rattle.onbar_words.specs.Order.{form_in, FitsASite}
 use Rattle.onbar_words.specs.declared.words.Form.{Form}
 use Rattle.onbar_words.specs.declared.words.Form.TheVariants.{Init, Transactions, Show}

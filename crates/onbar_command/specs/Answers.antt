@@ -1,6 +1,6 @@
 -- The statuses that a command answers, and what it prints at a refusal.
 use Rattle.std.specs.Prelude.{◌≡◌, ℕ, List, Ok, Err}
-use Rattle.onbar_grammar.specs.Words.{Command, CommandForm, command_of, init_form, transactions_form, show_form}
+use Rattle.command_grammar.specs.Words.{Command, CommandForm, command_of, init_form, transactions_form, show_form}
 use Rattle.site_model.specs.declared.disk_name.DiskName.TheVariants.{Log, Chunk}
 use Rattle.site_model.specs.declared.status.Status.{Status}
 use Rattle.site_model.specs.declared.status.Status.TheVariants.{Ok as Done, Usage, ScriptFault, BadRecord, LogFull}

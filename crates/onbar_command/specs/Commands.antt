@@ -1,6 +1,6 @@
 -- What a command promises over a whole site.
 use Rattle.std.specs.Prelude.{◌≡◌, ◌⊎◌, ℕ, List, ◌++◌, Bool, false, IsTrue, Result, Ok, Err}
-use Rattle.onbar_grammar.specs.Words.{Command}
+use Rattle.command_grammar.specs.Words.{Command}
 use Rattle.site_disk.specs.declared.disk.Disk.{Ghosts}
 use Rattle.site_model.specs.declared.disk_name.DiskName.{DiskName}
 use Rattle.site_model.specs.declared.status.Status.{Status}

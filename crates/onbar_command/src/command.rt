@@ -1,6 +1,6 @@
 // The command `onbar`.
 ghost use Rattle.std.specs.Prelude.{◌≡◌, ◌⊎◌, ◌+◌, ◌-◌, ◌<◌, ◌≤◌, ◌^◌, ◌++◌, ℕ, Ok, Err, true, length, map, string_bytes, IsTrue};
-ghost use Rattle.onbar_grammar.specs.Words.{Command, command_of};
+ghost use Rattle.command_grammar.specs.Words.{Command, command_of};
 ghost use Rattle.site_disk.specs.Causes.{Rose};
 ghost use Rattle.site_model.specs.declared.disk_name.DiskName.{DiskName};
 ghost use Rattle.site_model.specs.declared.status.Status.{Status as StatusView};

@@ -1,10 +1,9 @@
 // The forms of a command over a site.
 ghost use Rattle.std.specs.Prelude.{◌≡◌, ◌⊎◌, ◌+◌, ◌-◌, ◌<◌, ◌≤◌, ◌^◌, ℕ, [], true, false, Ok, Err, length, map, string_bytes, IsTrue, OnOk, IfOk, IfErr, IsErrOf};
-ghost use Rattle.onbar_grammar.specs.Words.{Command, command_of};
+ghost use Rattle.command_grammar.specs.Words.{Command, command_of, is_transactions};
 ghost use Rattle.onbar_words.specs.Order.{form_in, FitsASite};
 ghost use Rattle.script_lines.specs.Cutting.{TakesFront};
 ghost use Rattle.site_disk.specs.Causes.{Rose};
-ghost use Rattle.site_model.specs.Runs.{is_transactions};
 ghost use Rattle.site_model.specs.declared.disk_name.DiskName.{DiskName};
 ghost use Rattle.site_model.specs.declared.status.Status.{Status as StatusView};
 ghost use Rattle.site_layouts.specs.Layouts.{HeldWorld};

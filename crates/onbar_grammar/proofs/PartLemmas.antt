@@ -4,7 +4,7 @@ use Rattle.std.proofs.lemmas.Bool.{ne_eqb, eq-eqb, eqb-true}
 use Rattle.std.proofs.lemmas.List.{take-append-drop, drop_more, get_or-take, length-take-le}
 use Rattle.std.specs.Option.{option_map}
 use Rattle.memchr.specs.Find.{IsFirstByte, is_byte}
-use Rattle.onbar_grammar.specs.Words.{parted_at}
+use Rattle.onbar_grammar.specs.Parts.{parted_at}
 
 -- ---- the first of some character
 

@@ -1,3 +1,3 @@
 pub mod Numbers
+pub mod Parts
 pub mod Script
-pub mod Words

@@ -1,6 +1,6 @@
 //! The parts of a word or a line.
 ghost use Rattle.std.specs.Prelude.{◌≡◌, None, Some, MatchOption};
-ghost use Rattle.onbar_grammar.specs.Words.{parted_at};
+ghost use Rattle.onbar_grammar.specs.Parts.{parted_at};
 
 use memchr::memchr;
 

@@ -11,7 +11,8 @@ use Rattle.std.specs.Option.{option_map}
 use Rattle.std.specs.Cmp.Lexicographic.{pointwise}
 use Rattle.onbar_grammar.specs.Numbers.{is_name, number_within}
 use Rattle.onbar_grammar.specs.Script.{Space}
-use Rattle.onbar_grammar.specs.Words.{CommandForm, Command, init_form, transactions_form, show_form, is_word, no_more, parted_at, space_of_parts, space_of_word, has_space, with_space, spaces_of_words, init_with, init_of_blocks, init_behind_k, init_of_words, show_of_page, show_of_space, show_of_words, form_of_words, command_with, command_of_workers, command_behind_j}
+use Rattle.onbar_grammar.specs.Parts.{parted_at}
+use Rattle.command_grammar.specs.Words.{CommandForm, Command, init_form, transactions_form, show_form, is_word, no_more, space_of_parts, space_of_word, has_space, with_space, spaces_of_words, init_with, init_of_blocks, init_behind_k, init_of_words, show_of_page, show_of_space, show_of_words, form_of_words, command_with, command_of_workers, command_behind_j}
 use Rattle.site_headers.specs.Heads.{IsSpace, IsFresh, AreDistinct}
 use Rattle.site_headers.specs.declared.heads.SpaceHead.{SpaceHead}
 use Rattle.site_headers.proofs.SpaceLemmas.{AreDistinct-push}

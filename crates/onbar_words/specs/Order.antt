@@ -1,6 +1,6 @@
 -- An order as the grammar has it, why words aren't read, and what is known of an order.
 use Rattle.std.specs.Prelude.{◌≡◌, ℕ, ◌-◌, ◌<◌, ◌^◌, List, slice_get, codes, Some, Err}
-use Rattle.onbar_grammar.specs.Words.{CommandForm, Command, init_form, transactions_form, show_form, command_of, form_at}
+use Rattle.command_grammar.specs.Words.{CommandForm, Command, init_form, transactions_form, show_form, command_of, form_at}
 use Rattle.site_headers.specs.Heads.{IsHead}
 use Rattle.site_headers.specs.Views.{spaces_of}
 use Rattle.onbar_words.specs.declared.words.Form.{Form}

@@ -1,7 +1,7 @@
 -- What the readers of the words of a form answer.
 use Rattle.std.specs.Prelude.{◌≡◌, ℕ, ◌||◌, ◌==◌, List, length, if◌then◌else◌, Option, None, Some, Result, Ok, Err}
 use Rattle.onbar_grammar.specs.Script.{Space}
-use Rattle.onbar_grammar.specs.Words.{CommandForm, has_space}
+use Rattle.command_grammar.specs.Words.{CommandForm, has_space}
 use Rattle.onbar_words.specs.Order.{form_in}
 use Rattle.onbar_words.specs.declared.words.Form.{Form}
 use Rattle.onbar_words.specs.declared.words.WordFault.{WordFault}

@@ -1,7 +1,7 @@
 //! The words of `-init`. A reader is told the place of its first word.
 ghost use Rattle.std.specs.Prelude.{◌≡◌, ◌+◌, ◌<◌, ◌≤◌, ◌^◌, [], length, map, string_bytes, Ok, IfOk, IfErr};
 ghost use Rattle.std.specs.Option.{option_map};
-ghost use Rattle.onbar_grammar.specs.Words.{init_of_words, init_behind_k, spaces_of_words, space_of_word, space_of_parts, has_space};
+ghost use Rattle.command_grammar.specs.Words.{init_of_words, init_behind_k, spaces_of_words, space_of_word, space_of_parts, has_space};
 ghost use Rattle.site_headers.specs.Views.{space_of, spaces_of};
 ghost use Rattle.onbar_words.specs.Order.{form_in};
 ghost use Rattle.onbar_words.specs.Readers.{Names, next_of};

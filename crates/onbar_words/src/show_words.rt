@@ -2,7 +2,7 @@
 //! place of the first refused word.
 ghost use Rattle.std.specs.Prelude.{◌≡◌, ◌+◌, ◌<◌, ◌^◌, length, map, string_bytes, IsTrue, IfSome, Some};
 ghost use Rattle.onbar_grammar.specs.Numbers.{is_name};
-ghost use Rattle.onbar_grammar.specs.Words.{no_more, show_of_space, show_of_words};
+ghost use Rattle.command_grammar.specs.Words.{no_more, show_of_space, show_of_words};
 ghost use Rattle.onbar_words.specs.Order.{form_in};
 ghost use Rattle.onbar_words.specs.Readers.{form_read};
 

@@ -1,6 +1,6 @@
 //! The words of a command.
 ghost use Rattle.std.specs.Prelude.{◌≡◌, ◌+◌, ◌-◌, ◌<◌, ◌≤◌, ◌^◌, length, map, codes, slice_get, string_bytes, Ok, Some, IfOk, IfErr, IsErrOf};
-ghost use Rattle.onbar_grammar.specs.Words.{command_of, command_behind_j, form_of_words};
+ghost use Rattle.command_grammar.specs.Words.{command_of, command_behind_j, form_of_words};
 ghost use Rattle.onbar_words.specs.Order.{command_in, form_in, Refuses, FitsASite};
 ghost use Rattle.onbar_words.specs.Readers.{Names};
 ghost use Rattle.onbar_words.specs.declared.words.WordFault.TheVariants.{OutOfMemory};

@@ -10,7 +10,7 @@ use Rattle.hex.specs.Hex.{decode_of}
 use Rattle.hex.proofs.HexLemmas.{decode_of-ok}
 use Rattle.onbar_grammar.specs.Numbers.{hex_bytes}
 use Rattle.onbar_grammar.specs.Script.{tokens_of, with_character}
-use Rattle.onbar_grammar.specs.Words.{parted_at}
+use Rattle.onbar_grammar.specs.Parts.{parted_at}
 
 -- ---- tokens
 

@@ -5,7 +5,7 @@ use Rattle.std.specs.Option.{option_or}
 use Rattle.std.proofs.lemmas.Bool.{false≢true}
 use Rattle.std.proofs.lemmas.Bool.Decides.{nat_tests}
 use Rattle.onbar_grammar.specs.Script.{place_of}
-use Rattle.onbar_grammar.specs.Words.{show_form}
+use Rattle.command_grammar.specs.Words.{show_form}
 use Rattle.site_disk.specs.declared.disk.Disk.{Ghosts}
 use Rattle.walks.specs.Follows.{Comes, Follows}
 use Rattle.walks.specs.FollowsLaws.{comes_after, goes_after, goes_wider}

@@ -2,7 +2,7 @@
 use Rattle.std.specs.Prelude.{◌≡◌, ◌⊎◌, ℕ, ◌+◌, ◌<◌, ◌≤◌, List, ◌∷◌, ◌++◌, slice_get, Bool, true, false, Option, None, Some, Result, Ok, Err}
 use Rattle.std.specs.Option.{option_or}
 use Rattle.onbar_grammar.specs.Script.{place_of}
-use Rattle.onbar_grammar.specs.Words.{show_form}
+use Rattle.command_grammar.specs.Words.{show_form}
 use Rattle.log_history.specs.Effects.{Page}
 use Rattle.page_texts.specs.Texts.{page_text, pages_text}
 use Rattle.site_disk.specs.declared.disk.Disk.{Ghosts}

@@ -2,7 +2,7 @@
 ghost use Rattle.std.specs.Prelude.{◌≡◌, ◌⊎◌, ◌+◌, ◌-◌, ◌^◌, ◌<◌, ◌≤◌, ℕ, length, IsTrue, IsErr, OnOk, IfOk, IfErr, IsErrOf, MatchResult};
 ghost use Rattle.logical_log.specs.Rings.{IsOpen as IsOpenLog};
 ghost use Rattle.onbar_grammar.specs.Script.{place_of};
-ghost use Rattle.onbar_grammar.specs.Words.{show_form};
+ghost use Rattle.command_grammar.specs.Words.{show_form};
 ghost use Rattle.site_disk.specs.Causes.{Rose};
 ghost use Rattle.site_headers.specs.Heads.{IsHead};
 ghost use Rattle.site_headers.specs.Views.{head_of};

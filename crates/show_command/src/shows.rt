@@ -3,7 +3,7 @@ ghost use Rattle.std.specs.Prelude.{◌≡◌, ◌⊎◌, ℕ, ◌+◌, ◌-◌,
 ghost use Rattle.log_history.specs.Effects.{Page};
 ghost use Rattle.lane_texts.specs.Listings.{HoldsPages};
 ghost use Rattle.logical_log.specs.Rings.{IsOpen as IsOpenLog};
-ghost use Rattle.onbar_grammar.specs.Words.{show_form};
+ghost use Rattle.command_grammar.specs.Words.{show_form};
 ghost use Rattle.site_disk.specs.Causes.{Rose};
 ghost use Rattle.site_lanes.specs.Lanes.{OfEach};
 ghost use Rattle.space_lane.specs.Lanes.{IsOpen as IsOpenLane, count_of, disk_of, space_of};

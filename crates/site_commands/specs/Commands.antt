@@ -1,7 +1,7 @@
 -- What the clauses of a command say: where a stop may leave it, what it did at its end, what it read and printed.
 use Rattle.std.specs.Prelude.{◌≡◌, ◌⊎◌, ℕ, ◌+◌, ◌<◌, ◌≤◌, List, [], ◌∷◌, ◌++◌, length, Bool, true, false, ◌==◌, nat_lt, nat_le, IsTrue, Option, None, Some, Result, Ok, Err}
 use Rattle.onbar_grammar.specs.Script.{Raw, raw_lines, place_of}
-use Rattle.onbar_grammar.specs.Words.{Command, CommandForm, command_of, init_form, transactions_form, show_form}
+use Rattle.command_grammar.specs.Words.{Command, CommandForm, command_of, init_form, transactions_form, show_form}
 use Rattle.walks.specs.Follows.{Images, Goes, Ends}
 use Rattle.walks.specs.Courses.{IsOnWay}
 use Rattle.site_model.specs.declared.disk_name.DiskName.{DiskName}

@@ -4,7 +4,7 @@ use mathlib.Core.Logic.{inl, inr}
 use Rattle.std.proofs.Common.{refl, sym, ap, subst, ◌∙◌, append_assoc}
 use Rattle.std.proofs.lemmas.List.{append-nil}
 use Rattle.onbar_grammar.specs.Script.{Space}
-use Rattle.onbar_grammar.specs.Words.{CommandForm, init_form, transactions_form, show_form}
+use Rattle.command_grammar.specs.Words.{CommandForm, init_form, transactions_form, show_form}
 use Rattle.log_history.specs.History.{LogEntry, History, reset}
 use Rattle.walks.specs.Courses.{IsOnWay}
 use Rattle.site_headers.specs.Heads.{Head, IsHead}

@@ -2,14 +2,14 @@
 use Rattle.std.specs.Prelude.{ℕ, List, [], ◌∷◌, ◌++◌, length, map, Bool, true, false, if◌then◌else◌, Option, None, Some, Result, Ok, Err}
 use Rattle.std.specs.List.{flat_map}
 use Rattle.onbar_grammar.specs.Script.{Raw, Space, place_of}
-use Rattle.onbar_grammar.specs.Words.{Command, CommandForm, init_form, transactions_form, show_form, command_of}
+use Rattle.command_grammar.specs.Words.{Command, CommandForm, init_form, transactions_form, show_form, command_of, is_transactions}
 use Rattle.log_history.specs.History.{History}
 use Rattle.walks.specs.Courses.{Course, after_all, only}
 use Rattle.log_files.specs.declared.room.LogFull.{LogFull as RoomFull}
 use Rattle.log_files.specs.declared.room.LogFull.TheVariants.{NotBackedUp, Needed, Positions}
 use Rattle.site_model.specs.declared.status.Status.{Status}
 use Rattle.site_model.specs.declared.status.Status.TheVariants.{Ok as Done, OutOfMemory, Usage, ScriptFault, NotFormatted, AlreadyFormatted, NoSuchSpace, NoSuchCopy, NoSuchPage, NoSuchLog, NeedsRestart, NothingToRestart, ChunkLost, LogLost, Refused, LogFull as FullLog, StoreFull, CatalogueFull, BootFull, TooManyObjects}
-use Rattle.site_model.specs.Runs.{head_at, name_at, shown_text, is_transactions}
+use Rattle.site_model.specs.Runs.{head_at, name_at, shown_text}
 use Rattle.site_model.specs.Texts.{space_text, extension_text, status_text}
 use Rattle.site_worlds.specs.Worlds.{Site, World, unformatted, formatted}
 use Rattle.site_worlds.specs.Moves.{Move, WorldMove, moves_on, site_rules, world_rules}

@@ -4,7 +4,7 @@ use mathlib.Core.Logic.{inl, inr}
 use Rattle.std.proofs.Common.{arith, ap, refl, subst, sym, ◌∙◌, ⊎_elim}
 use Rattle.std.proofs.lemmas.Bool.{cases_lt, cases_Bool}
 use Rattle.onbar_grammar.specs.Script.{place_of}
-use Rattle.onbar_grammar.specs.Words.{Command, CommandForm, init_form, transactions_form, show_form}
+use Rattle.command_grammar.specs.Words.{Command, CommandForm, init_form, transactions_form, show_form}
 use Rattle.walks.specs.Follows.{Images, FollowsAmong}
 use Rattle.site_headers.specs.Heads.{Head}
 use Rattle.site_model.specs.declared.disk_name.DiskName.{DiskName}

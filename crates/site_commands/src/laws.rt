@@ -1,6 +1,6 @@
 //! The laws, each as the contract of a function.
 ghost use Rattle.std.specs.Prelude.{ℕ, List};
-ghost use Rattle.onbar_grammar.specs.Words.{CommandForm};
+ghost use Rattle.command_grammar.specs.Words.{CommandForm};
 ghost use Rattle.walks.specs.Courses.{IsOnWay};
 ghost use Rattle.site_worlds.specs.Fitness.{IsFit};
 ghost use Rattle.site_worlds.specs.Moves.{world_rules};

@@ -1,11 +1,10 @@
 -- What the function of a form promises.
 use Rattle.std.specs.Prelude.{◌≡◌, ◌⊎◌, ℕ, ◌+◌, List, Bool, false, Result, Ok, Err}
-use Rattle.onbar_grammar.specs.Words.{CommandForm}
+use Rattle.command_grammar.specs.Words.{CommandForm, is_transactions}
 use Rattle.site_disk.specs.declared.disk.Disk.{Ghosts}
 use Rattle.walks.specs.Follows.{Images}
 use Rattle.site_model.specs.declared.disk_name.DiskName.{DiskName}
 use Rattle.site_model.specs.declared.status.Status.{Status}
-use Rattle.site_model.specs.Runs.{is_transactions}
 use Rattle.site_worlds.specs.Fitness.{IsFit}
 use Rattle.site_layouts.specs.Layouts.{HeldWorld}
 use Rattle.site_core.specs.declared.site.Site.{Site}

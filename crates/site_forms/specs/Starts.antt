@@ -1,6 +1,6 @@
 -- Where a form starts, and when it leaves a site as it was.
 use Rattle.std.specs.Prelude.{◌≡◌, ℕ, ◌≤◌, Bool, true, false}
-use Rattle.onbar_grammar.specs.Words.{CommandForm, init_form, transactions_form, show_form}
+use Rattle.command_grammar.specs.Words.{CommandForm, init_form, transactions_form, show_form}
 use Rattle.site_disk.specs.declared.disk.Disk.{Ghosts}
 use Rattle.site_model.specs.declared.disk_name.DiskName.{DiskName}
 use Rattle.site_model.specs.declared.disk_name.DiskName.TheVariants.{Log, Chunk}

@@ -5,7 +5,6 @@ use Rattle.log_history.specs.Transactions.{Table, table_of, after, refusal, last
 use Rattle.onbar_grammar.specs.declared.Why.{Why}
 use Rattle.onbar_grammar.specs.declared.Why.TheVariants.{AlreadyOpen, NotOpen, TooManyOpen}
 use Rattle.onbar_grammar.specs.Script.{Line, begin_line, write_line, commit_line, abort_line, Space, entry_of_line, line_of, place_of}
-use Rattle.onbar_grammar.specs.Words.{CommandForm, init_form, transactions_form, show_form}
 use Rattle.log_history.specs.Effects.{page_at}
 use Rattle.space_pages.specs.Pages.{pages_of}
 use Rattle.page_texts.specs.Texts.{page_text, pages_text}
@@ -66,11 +65,6 @@ take_meaning moment end c (Ok (Some line)) =
 
 abbrev pub take_text : List Space → ℕ → ℕ → Collected → List ℕ → Taken
 take_text spaces moment end c text = take_meaning moment end c (line_of spaces text)
-
-abbrev pub is_transactions : CommandForm → Bool
-is_transactions (init_form blocks spaces) = false
-is_transactions transactions_form = true
-is_transactions (show_form space page) = false
 
 -- what `-init` fixes of a site: its id is the moment
 abbrev pub head_at : ℕ → ℕ → List Space → Head

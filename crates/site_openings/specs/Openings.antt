@@ -1,7 +1,7 @@
 -- What the bytes of a site's disks refuse: a form that can't be begun.
 use Rattle.std.specs.Prelude.{◌≡◌, ◌⊎◌, ℕ, ◌<◌, ◌≤◌, List, [], ◌∷◌, length, Bool, true, false, Option, None, Some, Ok}
 use Rattle.onbar_grammar.specs.Script.{place_of}
-use Rattle.onbar_grammar.specs.Words.{Command, CommandForm, command_of, init_form, transactions_form, show_form}
+use Rattle.command_grammar.specs.Words.{Command, CommandForm, command_of, init_form, transactions_form, show_form}
 use Rattle.site_headers.specs.Heads.{Head}
 use Rattle.site_headers.specs.Headers.{HasHeader}
 use Rattle.site_headers.specs.Areas.{slot_count}

@@ -7,7 +7,7 @@ use Rattle.std.proofs.lemmas.Bool.Decides.{nat_tests}
 use Rattle.log_history.specs.Transactions.{Table}
 use Rattle.object_store.specs.declared.store.Store.{Store}
 use Rattle.object_volume.specs.Volumes.{disk_of as volume_disk}
-use Rattle.onbar_grammar.specs.Words.{transactions_form}
+use Rattle.command_grammar.specs.Words.{transactions_form}
 use Rattle.site_disk.specs.declared.disk.Disk.{Ghosts}
 use Rattle.site_headers.specs.Heads.{Head}
 use Rattle.site_lanes.specs.Lanes.{SameFrom}

@@ -2,7 +2,7 @@
 use Rattle.std.specs.Prelude.{◌≡◌, ◌⊎◌, ℕ, ◌+◌, ◌<◌, ◌≤◌, List, ◌∷◌, ◌++◌, Bool, true, false, Option, None, Some, Result, Ok, Err}
 use Rattle.std.specs.Option.{option_or}
 use Rattle.log_history.specs.Transactions.{Table}
-use Rattle.onbar_grammar.specs.Words.{transactions_form}
+use Rattle.command_grammar.specs.Words.{transactions_form}
 use Rattle.site_disk.specs.declared.disk.Disk.{Ghosts}
 use Rattle.site_headers.specs.Heads.{Head}
 use Rattle.site_headers.specs.Views.{head_of}

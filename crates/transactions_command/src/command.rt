@@ -1,6 +1,6 @@
 //! The form `-T`: a site is opened, and its log is extended by a script.
 ghost use Rattle.std.specs.Prelude.{◌≡◌, ◌⊎◌, ◌+◌, ◌^◌, ◌≤◌, [], Ok, IsTrue, OnOk, IfOk, IfErr, IsErrOf};
-ghost use Rattle.onbar_grammar.specs.Words.{transactions_form};
+ghost use Rattle.command_grammar.specs.Words.{transactions_form};
 ghost use Rattle.script_lines.specs.Cutting.{TakesFront};
 ghost use Rattle.site_disk.specs.Causes.{Rose};
 ghost use Rattle.site_model.specs.declared.disk_name.DiskName.{DiskName};

@@ -1,7 +1,7 @@
 //! A site is opened for a script: its store and its boot file, its log, and then all of its lanes.
 ghost use Rattle.std.specs.Prelude.{◌≡◌, ◌⊎◌, ◌+◌, ◌-◌, ◌^◌, ◌<◌, ◌≤◌, length, IsTrue, IsErr, Some, OnOk, IfOk, IfErr, IsErrOf, MatchResult};
 ghost use Rattle.logical_log.specs.Rings.{IsOpen as IsOpenLog};
-ghost use Rattle.onbar_grammar.specs.Words.{transactions_form};
+ghost use Rattle.command_grammar.specs.Words.{transactions_form};
 ghost use Rattle.site_disk.specs.Causes.{Rose};
 ghost use Rattle.site_headers.specs.Heads.{IsHead};
 ghost use Rattle.site_headers.specs.Views.{head_of};

@@ -1,6 +1,6 @@
 use Rattle.std.proofs.Common.{◌⊎◌, ◌≡◌, ◌∙◌, ◌++◌, ⊎_elim, inl, inr, ℕ, List, map, Err, IsTrue, refl, sym, ap, subst}
 use Rattle.std.specs.Prelude.{string_bytes}
-use Rattle.onbar_grammar.specs.Words.{command_of}
+use Rattle.command_grammar.specs.Words.{command_of}
 use Rattle.site_model.specs.declared.status.Status.{Status}
 use Rattle.site_model.specs.declared.status.Status.TheVariants.{ReadFault, WriteFault, DiskFault, Usage}
 use Rattle.site_model.specs.Texts.{status_text}

@@ -1,8 +1,7 @@
 use Rattle.std.proofs.Common.{◌⊎◌, ◌≡◌, true, refl, sym, subst}
-use Rattle.onbar_grammar.specs.Words.{CommandForm, init_form, transactions_form, show_form}
+use Rattle.command_grammar.specs.Words.{CommandForm, init_form, transactions_form, show_form, is_transactions}
 use Rattle.onbar_words.specs.Order.{form_in}
 use Rattle.onbar_words.specs.declared.words.Form.{Form}
-use Rattle.site_model.specs.Runs.{is_transactions}
 use Rattle.site_core.specs.Disks.{contents_of}
 use Rattle.site_openings.specs.Openings.{DisksRefuse}
 use Rattle.site_headers.specs.Views.{spaces_of}

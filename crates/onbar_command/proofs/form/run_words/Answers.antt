@@ -1,6 +1,6 @@
 use Rattle.std.proofs.Common.{◌≡◌, ◌+◌, inl, inr, Err, map, refl, subst}
 use Rattle.std.specs.Prelude.{string_bytes, OnOk}
-use Rattle.onbar_grammar.specs.Words.{Command, command_of}
+use Rattle.command_grammar.specs.Words.{Command, command_of}
 use Rattle.onbar_words.specs.Order.{command_in, Refuses}
 use Rattle.onbar_words.specs.declared.words.WordFault.{WordFault}
 use Rattle.site_core.specs.Disks.{contents_of}

@@ -1,5 +1,5 @@
 use Rattle.std.proofs.Common.{◌≡◌, ◌+◌, [], drop, length, map, string_bytes}
-use Rattle.onbar_grammar.specs.Words.{spaces_of_words}
+use Rattle.command_grammar.specs.Words.{spaces_of_words}
 use Rattle.site_headers.specs.Views.{spaces_of}
 use Rattle.onbar_words.proofs.init_words.read_spaces.Given as goal
 

@@ -1,6 +1,6 @@
 use Rattle.std.proofs.Common.{◌≡◌, ◌-◌, length, map, string_bytes, take, drop, Ok}
 use Rattle.std.proofs.lemmas.Result.{IfOk-weaker}
-use Rattle.onbar_grammar.specs.Words.{command_behind_j}
+use Rattle.command_grammar.specs.Words.{command_behind_j}
 use Rattle.onbar_words.specs.declared.words.Order.{Order}
 use Rattle.onbar_words.specs.Order.{command_in, FitsASite}
 use Rattle.onbar_words.proofs.InitLemmas.{FitsASite-form_of_words, FitsASite-command_behind_j}

@@ -3,7 +3,7 @@ use Rattle.std.specs.Prelude.{MatchOption, MatchResult}
 use Rattle.std.specs.Option.{ok_or}
 use Rattle.onbar_grammar.specs.declared.Why.TheVariants.{Words}
 use Rattle.onbar_grammar.specs.Script.{tokens_of}
-use Rattle.onbar_grammar.specs.Words.{parted_at}
+use Rattle.onbar_grammar.specs.Parts.{parted_at}
 use Rattle.script_lines.proofs.TokenLemmas.{tokens_of-parts, tokens_of-whole}
 use Rattle.script_lines.proofs.tokens.split_token.Goals as goal
 

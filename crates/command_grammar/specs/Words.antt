@@ -1,9 +1,10 @@
 -- The words of `onbar`, behind the program's name.
-use Rattle.std.specs.Prelude.{ℕ, ◌+◌, List, [], ◌∷◌, ◌++◌, length, Bool, false, ◌||◌, ◌==◌, nat_eq, if◌then◌else◌, Option, None, Some, Result, Ok, Err, codes}
+use Rattle.std.specs.Prelude.{ℕ, ◌+◌, List, [], ◌∷◌, ◌++◌, length, Bool, true, false, ◌||◌, ◌==◌, nat_eq, if◌then◌else◌, Option, None, Some, Result, Ok, Err, codes}
 use Rattle.std.specs.Cmp.Lexicographic.{pointwise}
 use Rattle.std.specs.Option.{option_map, option_and_then}
 use Rattle.std.specs.Result.{result_err}
 use Rattle.onbar_grammar.specs.Numbers.{number_within, is_name}
+use Rattle.onbar_grammar.specs.Parts.{parted_at}
 use Rattle.onbar_grammar.specs.Script.{Space}
 
 -- What the words ask for: to format a site, with so many blocks of 4,096 bytes in each volume; to run a script of
@@ -27,11 +28,6 @@ is_word text word = pointwise nat_eq word text
 abbrev pub no_more : CommandForm → ℕ → List (List ℕ) → Result CommandForm ℕ
 no_more form at [] = Ok form
 no_more form at (word ∷ words) = Err at
-
--- the parts before and behind the first such character
-abbrev pub parted_at : ℕ → List ℕ → Option (List ℕ × List ℕ)
-parted_at c [] = None
-parted_at c (x ∷ xs) = if x == c then Some ([], xs) else option_map (λ parts. (x ∷ parts.0, parts.1)) (parted_at c xs)
 
 -- `NAME:PAGES`, with 1 to 65,536 pages
 abbrev pub space_of_parts : List ℕ → List ℕ → Option Space
@@ -119,3 +115,9 @@ refused_word words = result_err (command_of words)
 abbrev pub form_at : List (List ℕ) → ℕ
 form_at [] = 1
 form_at (word ∷ words) = if is_word (codes "-j") word then 3 else 1
+
+-- whether a form reads a script of transactions
+abbrev pub is_transactions : CommandForm → Bool
+is_transactions (init_form blocks spaces) = false
+is_transactions transactions_form = true
+is_transactions (show_form space page) = false
