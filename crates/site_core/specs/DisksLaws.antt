@@ -32,4 +32,3 @@ module _ {D : Type 0} (disk : Ghosts D) (era : EraView) where
       → MayUseAll disk era site
   site_may site disks is cat spare boot log volumes chunks name =
       subst (λ (it : Option D). may_or disk era it) (sym (is name)) (all_may disks cat spare boot log volumes chunks name)
-
