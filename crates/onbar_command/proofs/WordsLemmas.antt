@@ -1,6 +1,6 @@
 -- What the words of a command say of its run.
 use Rattle.std.proofs.Common.{◌≡◌, ◌⊎◌, inl, inr, ℕ, ◌≤◌, ◌^◌, List, Result, Ok, Err, Option, true, refl, ap, subst, sym, arith, ⊎_elim, ◌∙◌}
-use Rattle.std.specs.Prelude.{IfErr}
+use Rattle.std.specs.Prelude.{Bool, IfErr, OnOk}
 use Rattle.command_grammar.specs.Words.{Command, command_of, show_form, transactions_form, is_transactions}
 use Rattle.site_model.specs.declared.status.Status.{Status}
 use Rattle.site_model.specs.declared.status.Status.TheVariants.{Usage, BadRecord}
@@ -20,7 +20,7 @@ use Rattle.site_forms.specs.Starts.{start_of, IsOfChunk}
 use Rattle.site_commands.specs.Commands.{uses, CutsShort, IsPassed}
 use Rattle.site_commands.specs.PassLaws.{MakesAHead, run_passes}
 use Rattle.site_commands.specs.Runs.{reads_script, run_command, run_form}
-use Rattle.site_openings.specs.Openings.{Contents_of, DisksRefuse, IsOpenFor, IsRefused}
+use Rattle.site_openings.specs.Openings.{Contents_of, DisksRefuse, IsOfDisks, IsOpenFor, IsRefused, OpensFor}
 use Rattle.transactions_command.specs.Entering.{IsOfLog}
 use Rattle.show_command.specs.Showing.{IsOfReading}
 use Rattle.onbar_command.specs.Answers.{IsMet, IsUsage, MayMeet, Meets, WordsMayMeet}
@@ -38,6 +38,19 @@ module _ (words : List (List ℕ)) (command : Command) (order : command_of words
   words_refused contents (Ok value) is = tt
   words_refused contents (Err status) is =
       ⊎_elim (λ cut. inl cut) (λ other. inr (inr (⊎_elim (λ refuses. inl (command, order, refuses)) (λ meets. inr (command, order, meets)) other))) is
+
+  pub words_open : {T : Type 0} (contents : Contents_of) (result : Result T Status) → OnOk result (IsOpenFor command.form contents) → OnOk result (OpensFor words contents)
+  words_open contents (Ok value) is = (command, order, is)
+  words_open contents (Err status) is = tt
+
+  pub words_answered : {T : Type 0} (result : Result T Status) → IfErr result (λ status. CutsShort status ⊎ IsOfDisks status)
+      → IfErr result (λ status. CutsShort status ⊎ (IsUsage words status ⊎ IsOfDisks status))
+  words_answered (Ok value) is = tt
+  words_answered (Err status) is = ⊎_elim (λ cut. inl cut) (λ of. inr (inr of)) is
+
+  -- whether it reads a script
+  pub reads_as : {b : Bool} → reads_script (command_of words) ≡ b → is_transactions command.form ≡ b
+  reads_as is = sym (ap reads_script order) ∙ is
 
   -- what its form leaves of the disks
   pub words_kept : {T : Type 0} (A : Type 0) (result : Result T Status) → IfErr result (λ status. CutsShort status ⊎ ((IsOfChunk status ⊎ A) ⊎ MayMeet command.form status))

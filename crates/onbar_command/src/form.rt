@@ -18,6 +18,7 @@ ghost use Rattle.site_forms.specs.Reports.{status_told};
 ghost use Rattle.site_forms.specs.Starts.{IsKept, IsOfChunk, WritesWithin};
 ghost use Rattle.onbar_command.specs.Answers.{IsMet, IsUsage, MayMeet, Meets, WordsMayMeet};
 ghost use Rattle.onbar_command.specs.Commands.{ComesTo, PassesFor, PromisesFor, RestsFor, ShownFor};
+ghost use Rattle.onbar_command.specs.Forms.{FormDoes};
 
 use init_command::init_site;
 use onbar_words::{Form, WordFault, read_words};
@@ -44,35 +45,7 @@ fn run_form<D: Disk, S: Source>(
     requires moment { moment ≤ 2 ^ 48 }
     requires fits { FitsASite form }
 
-    ensures refused { IsTrue D.is_modelled → IfErr result (λ status. CutsShort status
-        ⊎ (DisksRefuse (form_in form) (contents_of D.Disk site.old) status ⊎ Meets (form_in form) (contents_of D.Disk site.old) status)) }
-    ensures opens { IsTrue D.is_modelled → OnOk result (IsOpenFor (form_in form) (contents_of D.Disk site.old)) }
-    ensures kept { IfErr result (λ status. CutsShort status
-        ⊎ ((IsOfChunk status ⊎ IsKept D.Disk site.old site.new) ⊎ MayMeet (form_in form) status)) }
-    ensures harmless { IsTrue D.is_modelled → (status : StatusView) → DisksRefuse (form_in form) (contents_of D.Disk site.old) status
-        → (IsOfChunk status ⊎ IsQuiet D.Disk site.old site.new) × (source.new ≡ source.old) }
-
-    ensures passes { IsTrue D.is_modelled → (is_transactions (form_in form) ≡ true → IsTrue S.is_modelled)
-        → PassesBy D.Disk (form_in form) era.old.number site.old site.new moment (S.left source.old) }
-    ensures finishes { IsTrue D.is_modelled → (is_transactions (form_in form) ≡ true → IsTrue S.is_modelled)
-        → FinishesBy D.Disk (form_in form) era.old.number site.old site.new era.new.number moment (S.left source.old) (S.left source.new) result }
-    ensures rests { IsTrue D.is_modelled → RestsOthers D.Disk (form_in form) era.old.number site.old site.new }
-
-    ensures answered { IfErr result (λ status. CutsShort status ⊎ IsOfDisks status) }
-    ensures no_stop { IfOk result IsNoStop }
-    ensures read_fault { IsErrOf result Status.ReadFault → Rose (S.faults source.old) (S.faults source.new) }
-    ensures no_write_fault { IsErrOf result Status.WriteFault → ⊥ }
-    ensures disk_fault { (name : DiskName) → IsErrOf result (Status.DiskFault name) → Rose (faults_on D.Disk site.old name) (faults_on D.Disk site.new name) }
-
-    ensures written { OnOk result (WritesWithin D.Disk (form_in form) site.old site.new) }
-    ensures unread { is_transactions (form_in form) ≡ false → source.new ≡ source.old }
-    ensures taken { IsTrue S.is_modelled → TakesFront (S.left source.old) (S.left source.new) }
-    ensures to_end { IsTrue S.is_modelled → is_transactions (form_in form) ≡ true → IfOk result (λ report. status_told (Ok report) ≡ Status.Ok → S.left source.new ≡ []) }
-    ensures source_later { S.faults source.old ≤ S.faults source.new }
-    ensures era { era.new.number ≤ era.old.number + 2 ^ 32 }
-    ensures era_later { era.old.number ≤ era.new.number }
-    ensures key { era.new.key ≡ era.old.key }
-    ensures may { MayUseAll D.Disk era.new site.new }
+    ensures does { FormDoes D.Disk S.Source (form_in form) era.old era.new site.old site.new source.old source.new moment result }
 {
     match form {
         Form::Init { blocks, spaces } => init_site(alloc, site, era, blocks, spaces, moment),
