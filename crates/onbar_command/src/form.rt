@@ -1,6 +1,6 @@
 // The forms of a command over a site.
 ghost use Rattle.std.specs.Prelude.{◌≡◌, ◌⊎◌, ◌+◌, ◌-◌, ◌<◌, ◌≤◌, ◌^◌, ℕ, [], true, false, Ok, Err, length, map, string_bytes, IsTrue, OnOk, IfOk, IfErr, IsErrOf};
-ghost use Rattle.command_grammar.specs.Words.{Command, command_of, is_transactions};
+ghost use Rattle.command_grammar.specs.Words.{Command, command_of};
 ghost use Rattle.onbar_words.specs.Order.{form_in, FitsASite};
 ghost use Rattle.script_lines.specs.Cutting.{TakesFront};
 ghost use Rattle.site_disk.specs.Causes.{Rose};
@@ -12,11 +12,11 @@ ghost use Rattle.site_core.specs.Made.{IsMadeSite};
 ghost use Rattle.site_core.specs.Quiet.{IsQuiet};
 ghost use Rattle.site_commands.specs.Commands.{CutsShort, IsSound};
 ghost use Rattle.site_commands.specs.Runs.{reads_script};
-ghost use Rattle.site_openings.specs.Openings.{DisksRefuse, IsOfDisks, IsOpenFor, IsRefused, OpensFor};
-ghost use Rattle.site_forms.specs.Forms.{FinishesBy, IsNoStop, PassesBy, RestsOthers};
+ghost use Rattle.site_openings.specs.Openings.{IsOfDisks, IsRefused, OpensFor};
+ghost use Rattle.site_forms.specs.Forms.{IsNoStop};
 ghost use Rattle.site_forms.specs.Reports.{status_told};
 ghost use Rattle.site_forms.specs.Starts.{IsKept, IsOfChunk, WritesWithin};
-ghost use Rattle.onbar_command.specs.Answers.{IsMet, IsUsage, MayMeet, Meets, WordsMayMeet};
+ghost use Rattle.onbar_command.specs.Answers.{IsMet, IsUsage, WordsMayMeet};
 ghost use Rattle.onbar_command.specs.Commands.{ComesTo, PassesFor, PromisesFor, RestsFor, ShownFor};
 ghost use Rattle.onbar_command.specs.Forms.{FormDoes};
 
