@@ -1,4 +1,5 @@
 pub mod DiskLemmas
 pub mod LoopLemmas
 pub mod PassLemmas
+pub mod StepLemmas
 pub mod WayLemmas

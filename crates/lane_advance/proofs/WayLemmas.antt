@@ -2,6 +2,7 @@
 use Rattle.std.proofs.Common.{◌≡◌, ◌⊎◌, inl, inr, ℕ, zero, suc, ◌+◌, ◌^◌, ◌<◌, ◌≤◌, min, Bool, true, false, List, [], ◌∷◌, ◌++◌, length, take, drop, refl, sym, ap, ◌∙◌, subst, arith, length-drop, length-take, take-append-drop}
 use Rattle.std.specs.Prelude.{if◌then◌else◌, filter, nat_lt}
 use Rattle.std.proofs.lemmas.Bool.{cases_lt}
+use Rattle.std.proofs.lemmas.Bool.Decides.{nat_tests}
 use Rattle.std.proofs.lemmas.List.{drop-drop, take_all}
 use Rattle.std.proofs.Math.ListN.{drop_of_length-le}
 use Rattle.log_history.specs.History.{History}
@@ -45,6 +46,24 @@ lie_drop zero list all = all
 lie_drop (suc i) [] all = tt
 lie_drop (suc i) (x ∷ list) all = lie_drop i list all.1
 
+-- what stands behind a later place stands behind an earlier one too
+behind_twice : (a b : ℕ) → a ≤ b → (list : List Change) → changes_behind b (changes_behind a list) ≡ changes_behind b list
+behind_twice a b le [] = refl
+behind_twice a b le (x ∷ list) = by (cases_lt a x.commit) (behind_twice a b le list)
+  where
+    by : (a < x.commit) ⊎ (x.commit ≤ a) → changes_behind b (changes_behind a list) ≡ changes_behind b list
+        → changes_behind b (changes_behind a (x ∷ list)) ≡ changes_behind b (x ∷ list)
+    by (inl lt) rest =
+        let is : nat_lt a x.commit ≡ true = grind (arith, nat_tests, lt) in
+        ap (λ (c : Bool). changes_behind b (if c then x ∷ changes_behind a list else changes_behind a list)) is
+        ∙ ap (λ (l : List Change). if nat_lt b x.commit then x ∷ l else l) rest
+    by (inr isnt) rest =
+        let first : nat_lt a x.commit ≡ false = grind (arith, nat_tests, isnt) in
+        let second : nat_lt b x.commit ≡ false = grind (arith, nat_tests, isnt, le) in
+        ap (λ (c : Bool). changes_behind b (if c then x ∷ changes_behind a list else changes_behind a list)) first
+        ∙ rest
+        ∙ sym (ap (λ (c : Bool). if c then x ∷ changes_behind b list else changes_behind b list) second)
+
 -- a step of any pages takes a change
 pub chosen_some : (space count : ℕ) (list : List Change) (front : ℕ) (pages : List ℕ) → Chooses space count list front pages → (pages ≡ [] → ⊥) → 1 ≤ front
 chosen_some space count list front pages chooses some = by (cases_lt 0 (length (own space count list))) front refl
@@ -74,6 +93,17 @@ module _ (history : History) (n space count to upto part : ℕ) (list : List Cha
         filter_within (λ (change : Change). nat_lt upto change.commit) (own space count list),
         filter_within (λ (change : Change). is_own space count change) list,
       )
+
+  -- the changes lead on from each place on the way that isn't before the first one
+  pub leads_on : (further more : ℕ) → IsPlace history n space further more → upto ≤ further → Leads history n space count to further more list
+  leads_on further more place le = record {
+    is_to = leads.is_to;
+    place = place;
+    handed = sym (behind_twice upto further le (own space count list)) ∙ ap (changes_behind further) leads.handed ∙ behind_twice upto further le way;
+    rises = leads.rises;
+    lie = leads.lie;
+    few = leads.few;
+  }
 
   own_behind : (start : ℕ) → drop start list ≡ changes_behind upto list → own space count (drop start list) ≡ behind
   own_behind start starts =

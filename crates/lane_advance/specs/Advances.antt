@@ -1,5 +1,5 @@
 -- A lane that is brought forward along its way.
-use Rattle.std.specs.Prelude.{◌≡◌, ℕ, ◌<◌, ◌≤◌, ◌^◌, List, length, take, drop}
+use Rattle.std.specs.Prelude.{◌≡◌, ◌⊎◌, ℕ, ◌<◌, ◌≤◌, ◌^◌, List, length, take, drop}
 use Rattle.log_history.specs.History.{History}
 use Rattle.log_history.specs.Effects.{Change}
 use Rattle.space_pages.specs.Pages.{LieWithin, brought}
@@ -47,3 +47,9 @@ pub record GoesOn (history : History) (n space count upto part : ℕ) (list : Li
   pub under_way : IsUnderWay history n space count upto part list new
   pub pages : brought space 0 (take front (drop old.taken list)) (lane_pages history n space old.upto old.part count) ≡ lane_pages history n space new.upto new.part count
   pub other : new.upto ≡ old.upto → new.part ≡ old.part → ⊥
+
+-- One step came to the position, or to another place; that isn't before the first one, and the changes lead on from it.
+pub record GoesTo (history : History) (n space count to upto part : ℕ) (list : List Change) (further more : ℕ) : Type 0 where
+  pub leads : Leads history n space count to further more list
+  pub not_before : IsNotBefore upto part further more
+  pub goes : ((further ≡ to) × (more ≡ 0)) ⊎ (further ≡ upto → more ≡ part → ⊥)

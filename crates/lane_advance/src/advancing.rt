@@ -28,7 +28,7 @@ use txn_table::Change;
 
 /// One step, with the mark stored behind it; `false` where none of the changes that are left is the space's own, and nothing
 /// is done.
-fn advance_one<D: Disk>(
+pub(crate) fn advance_one<D: Disk>(
     disk: &mut D,
     era: &Era,
     images: &mut Images,
@@ -52,10 +52,14 @@ fn advance_one<D: Disk>(
     ensures within { progress.new.taken ≤ length changes.now }
     ensures no_less { progress.old.taken ≤ progress.new.taken }
     ensures more { IfOk result (λ goes. goes ≡ true → progress.old.taken < progress.new.taken) }
+    ensures short { IfOk result (λ goes. goes ≡ true → progress.new.upto ≤ to) }
     ensures none { IfOk result (λ goes. goes ≡ false → own space count (drop progress.new.taken (map change_of changes.now)) ≡ []) }
     ensures under_way { (history : History) (n upto part : ℕ) → Leads history n space count to upto part (map change_of changes.now)
         → IsUnderWay history n space count upto part (map change_of changes.now) progress.old
         → OnOk result (IsUnderWay history n space count upto part (map change_of changes.now) progress.new) }
+    ensures other { (history : History) (n upto part : ℕ) → Leads history n space count to upto part (map change_of changes.now)
+        → IsUnderWay history n space count upto part (map change_of changes.now) progress.old
+        → IfOk result (λ goes. goes ≡ true → progress.new.upto ≡ progress.old.upto → progress.new.part ≡ progress.old.part → ⊥) }
     ensures rests { IsTrue D.is_modelled → (history : History) (n upto part : ℕ) (first : List ℕ)
         → Leads history n space count to upto part (map change_of changes.now)
         → IsUnderWay history n space count upto part (map change_of changes.now) progress.old
@@ -95,7 +99,7 @@ fn advance_one<D: Disk>(
 }
 
 /// The last move: from a place at which all is laid to the position that the way leads to, with the same pages.
-fn finish<D: Disk>(
+pub(crate) fn finish<D: Disk>(
     disk: &mut D,
     era: &Era,
     images: &mut Images,

@@ -9,9 +9,11 @@ mod advancing;
 mod passing;
 mod places;
 mod progress;
+mod stepping;
 
 pub use advancing::advance;
 pub use places::{place_in, with_place};
+pub use stepping::advance_step;
 
 #[cfg(test)]
 mod tests;

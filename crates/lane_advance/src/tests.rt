@@ -3,7 +3,7 @@ ghost use Rattle.std.specs.Prelude.{◌≡◌, ◌<◌, ◌^◌};
 ghost use Rattle.site_disk.specs.Ledger.{MayUse};
 ghost use Rattle.site_disk.specs.MemDisk.{disk_ledger};
 
-use crate::{advance, place_in};
+use crate::{advance, advance_step, place_in};
 use backup_lines::LaneState;
 use before_images::Images;
 use lane_mark::decode;
@@ -232,5 +232,50 @@ fn a_stop_leaves_a_cut(rt: HostRuntime) -> Result<(), Fail> {
         assert_eq!(rt; (left.end, left.last), ((100, 0), 42), "call {call}");
     }
     assert!(rt; within, "no stop within the pages of the second step");
+    Ok(())
+}
+
+// One step from the place of the mark, up to position 100: the place that it answers, and the one that the mark has then.
+fn step_forward(
+    disk: &mut MemDisk,
+    era: &Era,
+    changes: &[Change],
+) -> Result<[(u64, u32); 2], Failed>
+    requires { MayUse era.now (disk_ledger disk.old) }
+    ensures { MayUse era.now (disk_ledger disk.new) }
+{
+    let mut mark = Mark::new(4096);
+    let mut images = Images::new(8192);
+    let from = load(disk, era, &mut mark)?;
+    let state = LaneState::At { upto: 0, part: 0 };
+    let place = advance_step(
+        disk,
+        era,
+        &mut images,
+        &mut mark,
+        SPACE,
+        COUNT,
+        &state,
+        from,
+        100,
+        changes,
+    )?;
+    let mut loaded = Mark::new(4096);
+    Ok([place, load(disk, era, &mut loaded)?])
+}
+
+#[test]
+fn steps_of_16_pages_come_to_the_position(rt: HostRuntime) -> Result<(), Fail> {
+    let alloc = rt.alloc();
+    let era = Era::first();
+    let changes = all_pages(alloc)?;
+    let mut disk = MemDisk::new(alloc, &era, new_chunk(alloc)?);
+    assert_eq!(rt; step_forward(&mut disk, &era, &changes)?, [(0, 16); 2]);
+    assert_eq!(rt; step_forward(&mut disk, &era, &changes)?, [(0, 32); 2]);
+    assert_eq!(rt; step_forward(&mut disk, &era, &changes)?, [(100, 0); 2]);
+    assert_eq!(rt; page_byte(&disk, 39, 7), 42);
+    let before = disk.bytes_written();
+    assert_eq!(rt; step_forward(&mut disk, &era, &changes)?, [(100, 0); 2]);
+    assert_eq!(rt; disk.bytes_written(), before);
     Ok(())
 }

@@ -478,6 +478,8 @@ impl<D: Disk> LogRing<D> {
         ensures stands { IsTrue D.is_modelled → (site : ℕ) (files : LogFiles) → Stands site files (seen D.Disk (disk_of self.old)) self.old
             → IfOk result (λ closes. IsTrue closes → Stands site (closed files) (seen D.Disk (disk_of self.new)) self.new) }
         ensures nothing { IfOk result (λ closes. closes ≡ false → self.new ≡ self.old) }
+        ensures durable { IsTrue D.is_modelled → IfOk result (λ closes. IsTrue closes
+            → OnlyAfter era.now.number (D.bytes (disk_of self.new)) (D.image (disk_of self.new))) }
         ensures crash { IsTrue D.is_modelled → (site : ℕ) (files : LogFiles) → Stands site files (seen D.Disk (disk_of self.old)) self.old
             → Leaves era.now.number (MayPass site files (closed files ∷ [])) (D.image (disk_of self.old)) (D.image (disk_of self.new)) }
         ensures ledger { Uses era.now 1 4866 (D.ledger (disk_of self.old)) (D.ledger (disk_of self.new)) }

@@ -78,6 +78,20 @@ stands_at lane site count state pages upto part first disk size made tells heade
   settled = settled_then state upto part count disk.bytes (subst (λ (k : ℕ). restored images_at pages_at k upto part disk.bytes ≡ disk.bytes) size rests.settled);
 }
 
+-- also where the state is told in another way
+pub stands_as : {D : Type 0} (lane : Lane D) (site count : ℕ) (state then : LaneState) (pages : List Page) (upto part : ℕ) (first : List ℕ) (disk : Seen) → then ≡ with_place state upto part
+    → length pages ≡ count → IsMade lane → TellsOf count (with_place state upto part) lane → HasHeader (chunk_tail site lane.space count) first
+    → Rests (picture_of lane.space (with_place state upto part) upto part pages first) lane.mark disk → Stands site count then disk lane
+stands_as lane site count state then pages upto part first disk is size made tells header rests =
+    subst (λ (s : LaneState). Stands site count s disk lane) (sym is) (stands_at lane site count state pages upto part first disk size made tells header rests)
+
+-- a state that is at a place is at another one once it is moved there
+pub moved_at : (state : LaneState) (a b upto part : ℕ) → IsAt state a b → IsAt (with_place state upto part) upto part
+moved_at (At was_upto was_part) a b upto part is = refl
+moved_at (Blank restore) a b upto part is = absurd (cc is)
+moved_at (Image restore chain image entries) a b upto part is = absurd (cc is)
+moved_at (Replay restore chain was_upto was_part) a b upto part is = refl
+
 -- a state is at one place
 
 abbrev pub place : ℕ → ℕ → Place

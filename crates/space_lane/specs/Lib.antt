@@ -3,3 +3,4 @@ pub mod Lanes
 pub mod Stops
 pub mod Answers
 pub mod Shown
+pub mod Steps

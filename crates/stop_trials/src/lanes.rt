@@ -59,9 +59,12 @@ fn a_stop_within_the_17th_page(rt: HostRuntime) -> Result<(), Fail> {
     let cut = stopped(&rt, alloc, &site, Trouble::Stops(94, 2_048), None)?;
     assert!(rt; cut.is("", "DiskFault(Chunk(0))"));
     let chunk = cut.bytes.of(DiskName::Chunk(0));
-    // The gates, and the Writes laid of the commit in the newer slot.
+    // The gates, and the place in the newer slot: position 0, and the Writes laid of the commit behind it.
     assert_eq!(rt; chunk.get(4_096..4_098), Some([1, 1].as_slice()));
-    assert_eq!(rt; chunk.get(4_633..4_637), Some([0, 0, 0, 16].as_slice()));
+    assert_eq!(rt;
+        chunk.get(4_625..4_637),
+        Some([0, 0, 0, 0, 0, 0, 0, 0, 0, 0, 0, 16].as_slice())
+    );
     // A front of the 17th page.
     let page = 77_824 + 16 * 4_096;
     assert_eq!(rt;

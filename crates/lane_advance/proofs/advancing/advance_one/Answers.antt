@@ -60,6 +60,13 @@ returns-clause-under_way g c history n upto part leads under =
     c.choose-chosen.array_long (c.behind-next.ensures.goes history n upto part (map change_of c.args.changes.now)) in
     goes.under_way
 
+pub returns-clause-other : goal.returns-clause-other
+returns-clause-other g c history n upto part leads under is =
+    let goes = goes_so history n c.args.space c.args.count c.args.to upto part c.args.changes.now c.split_at.result.0.now c.choose-chosen.result.changes c.choose-chosen.result.pages c.choose-chosen.new.pages
+    c.args.state.now c.encode_into.new.bytes c.encode_into.new.bytes c.args.progress.now c.behind-next.result leads under c.choose-chosen.ensures.chooses c.if-chosen-eq0.false c.choose-chosen.ensures.few
+    c.choose-chosen.array_long (c.behind-next.ensures.goes history n upto part (map change_of c.args.changes.now)) in
+    goes.other
+
 pub returns-clause-rests : goal.returns-clause-rests
 returns-clause-rests g c tells history n upto part first leads under rests =
     let old = c.args.progress.now in

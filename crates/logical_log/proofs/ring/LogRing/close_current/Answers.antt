@@ -27,3 +27,6 @@ returns-clause-crash g c tells site files stands =
     let some : 1 ≤ length files.current = omega (arith, c.used.ensures files stands.tells.held) in
     store_passes site files (closed files) c.close.new.self.mark c.args.era.now.number _ _ (fit_closed files stands.tells.fits some) (λ d holds. (holds.past, holds.current))
     (c.close.ensures files stands.tells.held).mark (c.store_record.ensures.crash tells stands.knows stands.synced)
+
+pub returns-clause-durable : goal.returns-clause-durable
+returns-clause-durable g c tells unit = c.in_ok-store_record.ensures.durable tells
