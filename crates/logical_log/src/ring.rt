@@ -474,6 +474,8 @@ impl<D: Disk> LogRing<D> {
         ensures opened { OnOk result (IsOpen self.new) }
         ensures closes { (files : LogFiles) → TellsOf files self.old
             → IfOk result (λ closes. IsTrue closes ↔ ((files.is_closed ≡ false) × (1 ≤ length files.current))) }
+        // It fails only where there is something to close.
+        ensures errs { (files : LogFiles) → TellsOf files self.old → OnErr result ((files.is_closed ≡ false) × (1 ≤ length files.current)) }
         ensures told { (files : LogFiles) → TellsOf files self.old → IfOk result (λ closes. IsTrue closes → TellsOf (closed files) self.new) }
         ensures stands { IsTrue D.is_modelled → (site : ℕ) (files : LogFiles) → Stands site files (seen D.Disk (disk_of self.old)) self.old
             → IfOk result (λ closes. IsTrue closes → Stands site (closed files) (seen D.Disk (disk_of self.new)) self.new) }
