@@ -76,6 +76,33 @@ fn a_stop_within_the_17th_page(rt: HostRuntime) -> Result<(), Fail> {
     Ok(())
 }
 
+/// The 16 pages of the second step are written at every other call from 94 on. Whatever a crash leaves of one of them, by a seed of its own, the
+/// mark stands before the step, and what was kept is put back.
+#[test]
+fn a_stop_within_each_page_of_a_step(rt: HostRuntime) -> Result<(), Fail> {
+    let alloc = rt.alloc();
+    let site = written_site(&rt, alloc)?;
+    for call in (94..=124).step_by(2) {
+        let left = stopped(
+            &rt,
+            alloc,
+            &site,
+            Trouble::Stops(call, 33 * call as usize),
+            Some(call),
+        )?;
+        assert!(rt; left.is("", "DiskFault(Chunk(0))"), "call {call}");
+        let chunk = left.bytes.of(DiskName::Chunk(0));
+        assert_eq!(rt;
+            chunk.get(4_625..4_637),
+            Some([0, 0, 0, 0, 0, 0, 0, 0, 0, 0, 0, 16].as_slice()),
+            "call {call}"
+        );
+        let next = command(&rt, alloc, "-D A", &left.bytes, &Plan::NONE, b"")?;
+        assert!(rt; shows_all(alloc, &next)?, "call {call}");
+    }
+    Ok(())
+}
+
 /// The chunk's calls are 215, some of them reads of the pages that are shown.
 #[test]
 fn a_stop_anywhere_is_made_good(rt: HostRuntime) -> Result<(), Fail> {
