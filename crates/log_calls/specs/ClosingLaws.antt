@@ -1,22 +1,30 @@
 -- Laws of the current file closed.
 use Rattle.std.specs.Prelude.{◌≡◌, ℕ, suc, ◌+◌, ◌≤◌, List, [], ◌∷◌, length, Bool, true, false, ◌&&◌, not, nat_le, if◌then◌else◌, Option, None, Some}
-use Rattle.std.proofs.Common.{arith, refl, sym, ap, subst, ◌∙◌}
+use Rattle.std.proofs.Common.{◌<◌, arith, inl, inr, refl, sym, ap, subst, ◌∙◌}
+use Rattle.std.proofs.lemmas.Bool.{cases_lt}
 use Rattle.std.proofs.lemmas.Bool.Decides.{nat_tests}
 use Rattle.site_disk.specs.declared.disk.Disk.{Ghosts}
 use Rattle.site_disk.specs.Images.{Leaves}
 use Rattle.site_disk.specs.Seen.{seen}
 use Rattle.log_files.specs.Files.{LogFiles, closed}
 use Rattle.log_files.specs.Ring.{MayPass}
-use Rattle.logical_log.specs.Rings.{disk_of as log_disk, Stands as LogStands}
+use Rattle.logical_log.specs.Rings.{disk_of as log_disk, Stands as LogStands, TellsOf}
 use Rattle.logical_log.specs.declared.ring.LogRing.{LogRing}
 use Rattle.site_worlds.specs.Worlds.{Ring, Site}
 use Rattle.site_worlds.specs.Files.{first_of_file}
 use Rattle.site_worlds.specs.Fitness.{IsFitSite, FitRing}
 use Rattle.site_worlds.specs.Moves.{Move, close_file}
 use Rattle.world_laws.specs.RingLaws.{ring_of}
-use Rattle.site_courses.specs.Courses.{is_closable}
+use Rattle.walks.specs.Courses.{Does, make}
+use Rattle.site_courses.specs.Courses.{close_current, is_closable}
+use Rattle.site_layouts.specs.Stages.{site_stage}
 use Rattle.ring_laws.specs.Rings.{files_of, files_on_way}
 use Rattle.ring_laws.specs.PartsLaws.{first_behind, length-file_records}
+use Rattle.site_core.specs.declared.site.Site.{Site as Values}
+use Rattle.site_core.specs.Appending.{MayMake}
+use Rattle.site_core.specs.Calls.{CallFrom}
+use Rattle.site_core.specs.CallLaws.{nothing_to_do}
+use Rattle.site_core.specs.Layers.{layers}
 use Rattle.site_core.specs.LogCalls.{AreLogMoves, files_behind_all}
 use Rattle.log_calls.specs.Closing.{close_moves, close_by, takes_closing, with_closed}
 
@@ -72,3 +80,35 @@ pub close_stands : {D : Type 0} (disk : Ghosts D) (site : ℕ) (files : LogFiles
     → LogStands site (files_behind_all (close_by files) files) (seen disk (log_disk log)) log
 close_stands disk site files log is stands =
     subst (λ (b : Bool). LogStands site (files_behind_all (if b then close_file ∷ [] else []) files) (seen disk (log_disk log)) log) (sym is) stands
+
+-- where there is nothing to close
+pub takes_not : (files : LogFiles) → ((files.is_closed ≡ false) × (1 ≤ length files.current) → ⊥) → takes_closing files ≡ false
+takes_not files not_so = by files.is_closed refl
+  where
+    by : (b : Bool) → files.is_closed ≡ b → takes_closing files ≡ false
+    by true is = ap (λ (b : Bool). not b && nat_le 1 (length files.current)) is
+    by false is = elim (cases_lt 0 (length files.current)) [
+      | inl some ↦ absurd (not_so (is, omega (arith, some)))
+      | inr none ↦
+          let isnt : nat_le 1 (length files.current) ≡ false = grind (arith, nat_tests, none) in
+          ap (λ (b : Bool). not b && nat_le 1 (length files.current)) is ∙ isnt
+    ]
+
+-- nothing is done
+pub close_nothing : {D : Type 0} (disk : Ghosts D) (old : Values D) (log : LogRing D) (e : ℕ) → log ≡ old.log
+    → ((files : LogFiles) → TellsOf files old.log → takes_closing files ≡ false)
+    → CallFrom (site_stage (layers disk)) (MayMake close_moves) 2 e e old (record old { log = log }) close_current None
+unfolding site_stage
+close_nothing {D} disk old log e same isnt opened at enough stands may =
+    subst (λ (l : LogRing D). Does (site_stage (layers disk)) opened e e old (record old { log = l }) at (close_current at.site) None) (sym same)
+    (subst (λ (moves : List Move). Does (site_stage (layers disk)) opened e e old old at (make moves) None) (sym none)
+    (nothing_to_do (site_stage (layers disk)) opened e e old old at (λ f name bytes image. image) (omega arith) None stands))
+  where
+    files : LogFiles
+    files = files_of at.site.starts at.site.history may.has.ring
+
+    tells : TellsOf files old.log
+    tells = ((stands.agree.log enough).stands may.has.ring may.has.is).tells
+
+    none : close_moves at.site ≡ []
+    none = close_by_files at.site may.has.ring may.has.is stands.fits ∙ ap (λ (b : Bool). if b then close_file ∷ [] else []) (isnt files tells)

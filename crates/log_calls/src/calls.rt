@@ -1,5 +1,5 @@
 //! The current file closed, and a file marked.
-ghost use Rattle.std.specs.Prelude.{◌≡◌, ◌×◌, ◌+◌, ◌-◌, ◌<◌, ◌≤◌, ◌^◌, [], ◌∷◌, ℕ, IsTrue, IfErr, OnOk};
+ghost use Rattle.std.specs.Prelude.{◌≡◌, ◌+◌, ◌-◌, ◌<◌, ◌≤◌, ◌^◌, [], ◌∷◌, ℕ, IsTrue, IfErr, OnOk};
 ghost use Rattle.site_disk.specs.Ledger.{MayUse, Spends};
 ghost use Rattle.log_files.specs.Files.{LogFiles, closed_id, with_backed};
 ghost use Rattle.logical_log.specs.Rings.{IsMade, IsOpen, TellsOf, disk_of};
