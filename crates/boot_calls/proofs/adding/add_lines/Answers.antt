@@ -1,4 +1,4 @@
-use Rattle.std.proofs.Common.{ℕ, refl, arith}
+use Rattle.std.proofs.Common.{ℕ, Err, refl, ap, arith}
 use Rattle.boot_lines.specs.LineLayout.{lines_of}
 use Rattle.site_courses.specs.Faults.{cut_short}
 use Rattle.boot_calls.specs.AddingLaws.{lines_done, lines_fail}
@@ -29,5 +29,5 @@ returns-in-Ok-clause-told g c told number active tells = c.in-Ok.ensures.told to
 
 pub unreachable-requires-in-Err-BootFull : goal.unreachable-requires-in-Err-BootFull
 unreachable-requires-in-Err-BootFull g c =
-    let lacks = (c.in-Err-BootFull.ensures.full c.in-Err-BootFull.field-0-0 c.in-Err-BootFull.field-0-1 c.in-Err-BootFull.field-0-2).0 c.in-Err-BootFull.field-0-is in
+    let lacks = (c.in-Err-BootFull.ensures.full c.in-Err-BootFull.field-0-0 c.in-Err-BootFull.field-0-1 c.in-Err-BootFull.field-0-2).0 (ap Err c.in-Err-BootFull.field-0-is) in
     omega (arith, c.requires.room, lacks.full)
