@@ -4,8 +4,9 @@ ghost use Rattle.block_chain.specs.declared.runs.Run.{Run as Run-of-blocks};
 ghost use Rattle.site_disk.specs.Causes.{Rose};
 ghost use Rattle.site_disk.specs.Ledger.{MayUse, Spends};
 ghost use Rattle.site_disk.specs.Seen.{seen};
-ghost use Rattle.catalogue_journal.specs.Catalogues.{additions_of, ids_from, cat_of, spare_of, capacity_of, used_of, objects_of, contents_in, Stands};
+ghost use Rattle.catalogue_journal.specs.Catalogues.{additions_of, ids_from, cat_of, spare_of, capacity_of, used_of, objects_of, contents_in, IsAsItWas, Stands};
 ghost use Rattle.catalogue_journal.specs.Commits.{Ends};
+ghost use Rattle.catalogue_journal.specs.Refusals.{HasRoom};
 ghost use Rattle.catalogue_journal.specs.Transactions.{ended, slots_wanted};
 ghost use Rattle.object_store.specs.Returns.{AllGiveBack};
 ghost use Rattle.object_store.specs.Stores.{OfEach, IsOpenStore};
@@ -75,6 +76,14 @@ impl Session {
             → HoldWith (places (objects_of store.old.cat) (added_in (state_of self.old))) others store.old.volumes.items
             → HoldWith (places (objects_of store.new.cat) []) others store.new.volumes.items) }
 
+        // What was written, whole or in part, had the room; want of memory leaves the catalogue as it was.
+        ensures room { vote ≡ 1 → OnOk result (HasRoom (capacity_of store.old.cat) (used_of store.old.cat)
+            (deleted_in (state_of self.old)) (added_in (state_of self.old)) (contents_in store.old.cat)) }
+        ensures failed_room { IsErrOf result (BsaRc.AccessFailure Access.Cat) → HasRoom (capacity_of store.old.cat) (used_of store.old.cat)
+            (deleted_in (state_of self.old)) (added_in (state_of self.old)) (contents_in store.old.cat) }
+        ensures no_spare { IsErrOf result (BsaRc.AccessFailure Access.Spare) → ⊥ }
+        ensures starved { IsErrOf result BsaRc.OutOfMemory → IsAsItWas store.old.cat store.new.cat }
+
         ensures failed { IsErrOf result (BsaRc.AccessFailure Access.Cat)
             → Rose (D.ledger (cat_of store.old.cat)).faults (D.ledger (cat_of store.new.cat)).faults }
         ensures spare_failed { IsErrOf result (BsaRc.AccessFailure Access.Spare)
@@ -140,6 +149,14 @@ impl Session {
         ensures holds { OnOk result ((others : ℕ → List (List Run-of-blocks))
             → HoldWith (places (objects_of store.old.cat) (added_in (state_of self.old))) others store.old.volumes.items
             → HoldWith (places (objects_of store.new.cat) []) others store.new.volumes.items) }
+
+        // What was written, whole or in part, had the room; want of memory leaves the catalogue as it was.
+        ensures room { OnOk result (HasRoom (capacity_of store.old.cat) (used_of store.old.cat)
+            (deleted_in (state_of self.old)) (added_in (state_of self.old)) (contents_in store.old.cat)) }
+        ensures failed_room { IsErrOf result (BsaRc.AccessFailure Access.Cat) → HasRoom (capacity_of store.old.cat) (used_of store.old.cat)
+            (deleted_in (state_of self.old)) (added_in (state_of self.old)) (contents_in store.old.cat) }
+        ensures no_spare { IsErrOf result (BsaRc.AccessFailure Access.Spare) → ⊥ }
+        ensures starved { IsErrOf result BsaRc.OutOfMemory → IsAsItWas store.old.cat store.new.cat }
 
         ensures failed { IsErrOf result (BsaRc.AccessFailure Access.Cat)
             → Rose (D.ledger (cat_of store.old.cat)).faults (D.ledger (cat_of store.new.cat)).faults }

@@ -1,5 +1,5 @@
 //! Transactions that are ended over the catalogue and the volumes.
-ghost use Rattle.std.specs.Prelude.{◌≡◌, ◌+◌, ◌*◌, ◌<◌, ◌≤◌, ◌^◌, ℕ, List, [], length, map, false, IsTrue, IfOk, IfErr, OnOk, OnErr, IsErrOf};
+ghost use Rattle.std.specs.Prelude.{◌≡◌, ◌+◌, ◌*◌, ◌<◌, ◌≤◌, ◌^◌, ℕ, Bool, List, [], length, map, false, IsTrue, IfOk, IfErr, OnOk, OnErr, IsErrOf};
 ghost use Rattle.std.specs.List.{AllByRecursion};
 ghost use Rattle.block_chain.specs.declared.runs.Run.{Run as Run-of-blocks};
 ghost use Rattle.site_disk.specs.Ledger.{MayUse, Spends};
@@ -7,6 +7,7 @@ ghost use Rattle.site_disk.specs.Seen.{seen};
 ghost use Rattle.catalogue_replay.specs.Answers.{IsRefusal, FailsOn};
 ghost use Rattle.catalogue_journal.specs.Catalogues.{additions_of, ids_from, ended_by, wanted_by, cat_of, spare_of, capacity_of, used_of, objects_of, contents_in, IsMade, IsAsItWas, Stands};
 ghost use Rattle.catalogue_journal.specs.Commits.{Ends};
+ghost use Rattle.catalogue_journal.specs.Refusals.{HasRoom};
 ghost use Rattle.catalogue_journal.specs.Transactions.{IsAddition, AreLive};
 ghost use Rattle.object_store.specs.Returns.{place_of_object, place_of_addition, objects_with, AllGiveBack, CanCancel, Cancels};
 ghost use Rattle.object_store.specs.Stores.{OfEach};
@@ -59,6 +60,11 @@ impl<D: Disk> Store<D> {
 
         ensures fault { IfErr result (IsCommitFault (capacity_of self.old.cat) (used_of self.old.cat)
             staged.now.delete.items (additions_of staged.now) (contents_in self.old.cat)) }
+        // What was written, whole or in part, had the room.
+        ensures room { OnOk result (HasRoom (capacity_of self.old.cat) (used_of self.old.cat)
+            staged.now.delete.items (additions_of staged.now) (contents_in self.old.cat)) }
+        ensures failed_room { (spare : Bool) → IsErrOf result (CatFault.Failed spare) → HasRoom (capacity_of self.old.cat) (used_of self.old.cat)
+            staged.now.delete.items (additions_of staged.now) (contents_in self.old.cat) }
         ensures refused { IfErr result (λ fault. IsRefusal fault → self.new ≡ self.old) }
         ensures starved { IsErrOf result CatFault.OutOfMemory → IsAsItWas self.old.cat self.new.cat }
         ensures failed { IfErr result (FailsOn false (D.ledger (cat_of self.old.cat)).faults (D.ledger (cat_of self.new.cat)).faults) }

@@ -22,6 +22,7 @@ use Rattle.site_core.specs.Quiet.{OnlyReads, ReadsSame}
 use Rattle.site_core.specs.declared.faults.SiteFault.{SiteFault}
 use Rattle.site_core.specs.declared.faults.SiteFault.TheVariants.{DiskFault}
 use Rattle.site_core.specs.declared.site.Site.{Site}
+use Rattle.store_opening.specs.Standing.{FreeInOrder, IsSettled}
 use Rattle.site_opening.specs.Opens.{TellsBoot, store_bytes, store_checks}
 use Rattle.site_opening.specs.Steps.{MissesParts, OpensParts}
 use Rattle.site_opening.proofs.AnswerLemmas.{answer_by, either_by, err_by, ok_by, only_err_by, refuses_by}
@@ -30,7 +31,7 @@ use Rattle.site_opening.proofs.FailureLemmas.{misses_only, misses_rose, misses_s
 use Rattle.site_opening.proofs.PartLemmas.{KeepsParts, made_still, misses_keeps, opens_keeps, reads_all}
 use Rattle.site_opening.proofs.ReadLemmas.{only_reads}
 use Rattle.site_opening.proofs.RefusalLemmas.{Answers, misses_answers, opens_allowed, opens_named, opens_told}
-use Rattle.site_opening.proofs.StandLemmas.{ShowsParts, head_is, opens_open, opens_stands, shown_allowed}
+use Rattle.site_opening.proofs.StandLemmas.{ShowsParts, head_is, opens_open, opens_settled, opens_stands, shown_allowed}
 
 module _ {D : Type 0} (disk : Ghosts D) (era : EraView) (old new : Site D) (may : MayUseAll disk era old) (made : IsMadeSite old) where
   abbrev pub Opens : SiteHead → Type 0
@@ -78,6 +79,12 @@ module _ {D : Type 0} (disk : Ghosts D) (era : EraView) (old new : Site D) (may 
 
     pub opened : OnOk result (IsOpenStore new.store × IsOpenBoot new.boot)
     opened = ok_by Opens Misses (λ head. IsOpenStore new.store × IsOpenBoot new.boot) result is (λ head opens. opens_open disk era old new made (head_of head) opens)
+
+    pub settled : OnOk result (IsSettled new.store)
+    settled = ok_by Opens Misses (λ head. IsSettled new.store) result is (λ head opens. (opens_settled disk era old new made (head_of head) opens).0)
+
+    pub in_order : OnOk result (FreeInOrder new.store)
+    in_order = ok_by Opens Misses (λ head. FreeInOrder new.store) result is (λ head opens. (opens_settled disk era old new made (head_of head) opens).1)
 
     keeps : KeepsParts disk era old new
     keeps = either_by Opens Misses (KeepsParts disk era old new) result is

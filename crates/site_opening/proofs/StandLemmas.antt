@@ -21,8 +21,8 @@ use Rattle.object_store.specs.Stores.{IsOpenStore}
 use Rattle.object_store.proofs.ReturnLemmas.{get-within}
 use Rattle.store_opening.specs.Disks.{EachFrom, files_of}
 use Rattle.store_opening.specs.Opening.{IsGoodVolume, OpensVolume, ShowsStore}
-use Rattle.store_opening.specs.Standing.{Agrees as StoreAgrees}
-use Rattle.store_opening.proofs.AgreeLemmas.{HasOpened, agrees, open_each}
+use Rattle.store_opening.specs.Standing.{Agrees as StoreAgrees, FreeInOrder, IsSettled}
+use Rattle.store_opening.proofs.AgreeLemmas.{HasOpened, agrees, open_settled}
 use Rattle.store_opening.proofs.LoopLemmas.{get-map}
 use Rattle.store_opening.proofs.StoreLemmas.{one_head}
 use Rattle.opening_laws.proofs.ShownLemmas.{shown}
@@ -168,9 +168,10 @@ module _ {D : Type 0} (disk : Ghosts D) (was : Site D) (tells : IsTrue disk.is_m
 
 -- what is open behind Ok
 module _ {D : Type 0} (disk : Ghosts D) (era : EraView) (was is : Site D) (made : IsMadeSite was) (head : Head) (opens : OpensParts disk era head was is) where
+  pub opens_settled : IsSettled is.store × FreeInOrder is.store
+  opens_settled =
+      open_settled was.store is.store made.store (subst IsOpenCatalogue (sym opens.volumes.cat) opens.catalogue.opened)
+      (subst (λ (cat : Catalogue D). EachFrom (OpensVolume disk era head.site (objects_of cat)) was.store.volumes.items is.store.volumes.items) (sym opens.volumes.cat) opens.volumes.each)
+
   pub opens_open : IsOpenStore is.store × IsOpenBoot is.boot
-  opens_open = (
-    open_each was.store is.store made.store (subst IsOpenCatalogue (sym opens.volumes.cat) opens.catalogue.opened)
-        (subst (λ (cat : Catalogue D). EachFrom (OpensVolume disk era head.site (objects_of cat)) was.store.volumes.items is.store.volumes.items) (sym opens.volumes.cat) opens.volumes.each),
-    opens.boot.opened,
-  )
+  opens_open = (opens_settled.0.opened, opens.boot.opened)

@@ -16,6 +16,7 @@ ghost use Rattle.site_core.specs.Faults.{IsFailure, IsNoDiskFault, status_in};
 ghost use Rattle.site_core.specs.Layers.{layers};
 ghost use Rattle.site_core.specs.Made.{IsMadeSite};
 ghost use Rattle.site_core.specs.Quiet.{OnlyReads, ReadsSame};
+ghost use Rattle.store_opening.specs.Standing.{FreeInOrder, IsSettled};
 ghost use Rattle.site_opening.specs.Opens.{TellsBoot, store_bytes, store_checks};
 
 use crate::parts::open_parts;
@@ -48,6 +49,9 @@ pub fn open_site<D: Disk>(
     ensures only { IfErr result (λ fault. IsFailure fault ⊎ IsOfDisks (status_in fault)) }
     ensures failed { (name : DiskName) → IsErrOf result (SiteFault.DiskFault name) → Rose (faults_on D.Disk site.old name) (faults_on D.Disk site.new name) }
     ensures opened { OnOk result (IsOpenStore site.new.store × IsOpenBoot site.new.boot) }
+    // No object is being sent, each volume holds just the live objects on it, and its free blocks are in ascending order.
+    ensures settled { OnOk result (IsSettled site.new.store) }
+    ensures order { OnOk result (FreeInOrder site.new.store) }
     ensures made { IsMadeSite site.new }
 
     // What stays.

@@ -6,6 +6,7 @@ use Rattle.std.specs.Prelude.{◌==◌, ◌&&◌, nat_lt, filter, slice_get, Opt
 use Rattle.site_disk.specs.declared.disk.Disk.{Ghosts}
 use Rattle.block_chain.specs.Blocks.{times, ascending, blocks_for, blocks_of_runs, AreMaximal, BeginsElsewhere}
 use Rattle.block_chain.specs.declared.runs.Run.{Run}
+use Rattle.block_chain.proofs.RunLemmas.{ascending-snoc}
 use Rattle.catalogue_slots.specs.Records.{Object}
 use Rattle.catalogue_replay.specs.Contents.{Contents}
 use Rattle.object_volume.specs.Volumes.{free_of, blocks_in}
@@ -14,13 +15,12 @@ use Rattle.object_store.specs.Holdings.{blocks_of_all}
 use Rattle.object_store.specs.declared.store.Store.{Store}
 use Rattle.opening_laws.proofs.ShownLemmas.{same_blocks}
 use Rattle.store_opening.specs.Opening.{live_on}
-use Rattle.store_opening.specs.Standing.{Agrees}
+use Rattle.store_opening.specs.Standing.{Agrees, FreeInOrder}
 use Rattle.site_worlds.specs.Worlds.{Site}
 use Rattle.site_worlds.specs.Objects.{numbers, blocks_on}
 use Rattle.site_courses.specs.NewObjects.{free_blocks, with_block, runs_of, new_runs}
 use Rattle.site_layouts.specs.Stores.{contents_of}
 use Rattle.lane_ways.specs.ListLaws.{filter_all, filter_and}
-use Rattle.site_votes.specs.Stores.{FreeInOrder}
 
 -- runs are the longest ones of their own blocks
 
@@ -83,7 +83,13 @@ module _ (site : Site) (volume size : ℕ) where
 
 -- the blocks that aren't among the live ones
 abbrev pub by_blocks : List ℕ → ℕ → List ℕ
-by_blocks live count = filter (λ block. times block live == 0) (numbers count)
+by_blocks live count = filter (λ block. times block live == 0) (ascending 0 count)
+
+numbers_are : (n : ℕ) → ascending 0 n ≡ numbers n
+unfolding ascending
+numbers_are zero = refl
+numbers_are (suc n) =
+    ascending-snoc 0 n ∙ ap (λ (k : ℕ). ascending 0 n ++ k ∷ []) (zero-add n) ∙ ap (λ (l : List ℕ). l ++ n ∷ []) (numbers_are n)
 
 -- the free blocks of a volume, by the site
 pub free_is : {D : Type 0} (disk : Ghosts D) (from : ℕ) (store : Store D) (site : Site) (number : ℕ) (volume : Volume D)
@@ -94,6 +100,7 @@ free_is disk from store site number volume agrees order there =
     ∙ ap (λ (objects : List Object). by_blocks (blocks_of_all (live_on number objects)) (blocks_in volume)) (ap (λ (c : Contents). c.objects) agrees.contents_are)
     ∙ ap (λ (live : List ℕ). by_blocks live (blocks_in volume)) (same_blocks number site.store.kept)
     ∙ ap (by_blocks (blocks_on number site.store.kept)) (agrees.blocks number volume there)
+    ∙ ap (λ (l : List ℕ). filter (λ block. times block (blocks_on number site.store.kept) == 0) l) (numbers_are site.head.blocks)
 
 -- what is left of free blocks
 
@@ -156,10 +163,10 @@ left_of (suc n) (x ∷ xs) once =
 pub order_behind : (live more taken : List ℕ) (n count : ℕ) → ((block : ℕ) → times block more ≡ times block live + times block taken)
     → taken ≡ take n (by_blocks live count) → ((block : ℕ) → times block (by_blocks live count) ≤ 1) → by_blocks more count ≡ drop n (by_blocks live count)
 order_behind live more taken n count adds is once =
-    filter_as (λ block. times block more == 0) (λ block. (times block live == 0) && (times block (take n (by_blocks live count)) == 0)) (numbers count)
+    filter_as (λ block. times block more == 0) (λ block. (times block live == 0) && (times block (take n (by_blocks live count)) == 0)) (ascending 0 count)
     (λ block. both (times block live) (times block taken) (times block more) (adds block)
     ∙ ap (λ (l : List ℕ). (times block live == 0) && (times block l == 0)) is)
-    ∙ sym (filter_and (λ block. times block live == 0) (λ block. times block (take n (by_blocks live count)) == 0) (numbers count))
+    ∙ sym (filter_and (λ block. times block live == 0) (λ block. times block (take n (by_blocks live count)) == 0) (ascending 0 count))
     ∙ left_of n (by_blocks live count) once
   where
     both : (a b c : ℕ) → c ≡ a + b → (c == 0) ≡ ((a == 0) && (b == 0))

@@ -35,10 +35,10 @@ use Rattle.store_calls.specs.SendLaws.{there_too}
 use Rattle.store_calls.specs.Sessions.{HasTaken, HasSent}
 use Rattle.store_opening.specs.Disks.{EachFrom}
 use Rattle.store_opening.specs.Opening.{live_on}
-use Rattle.store_opening.specs.Standing.{Agrees, IsBehind}
+use Rattle.store_opening.specs.Standing.{Agrees, IsBehind, FreeInOrder, IsSettled}
 use Rattle.site_votes.specs.Objects.{place_for, addition_of}
 use Rattle.site_votes.specs.Sent.{IsSentWhole, HasNoRoom}
-use Rattle.site_votes.specs.Stores.{FreeInOrder, IsSettled, MayUseStore}
+use Rattle.site_votes.specs.Stores.{MayUseStore}
 use Rattle.site_votes.specs.Voted.{IsCommitted, VoteEnds}
 use Rattle.site_core.specs.declared.faults.SiteFault.{SiteFault}
 

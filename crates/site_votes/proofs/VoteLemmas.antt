@@ -42,13 +42,13 @@ use Rattle.store_calls.specs.SessionLaws.{session_agrees}
 use Rattle.store_calls.specs.Transactions.{ReadsAsImages, WritesFree, OnlySends, Transacts, AgreesBehind}
 use Rattle.store_calls.specs.VoteCalls.{sends_ends, sends_fails, transaction_done, transaction_fails}
 use Rattle.store_opening.specs.Disks.{EachFrom}
-use Rattle.store_opening.specs.Standing.{Agrees}
+use Rattle.store_opening.specs.Standing.{Agrees, FreeInOrder, IsSettled}
 use Rattle.site_votes.specs.Objects.{place_for, addition_of, new_object, commit_in, vote_course, MayVoteOn}
 use Rattle.site_core.specs.declared.faults.SiteFault.{SiteFault}
 use Rattle.site_core.specs.declared.faults.SiteFault.TheVariants.{OutOfMemory, DiskFault, NotFormatted, AlreadyFormatted, BadRecord, NeedsRestart, NoSuchSpace, NoSuchPage, ChunkLost, LogLost, LogFull, StoreFull, CatalogueFull, TooManyObjects, BootFull}
 use Rattle.site_model.specs.declared.disk_name.DiskName.TheVariants.{Cat, Spare, Boot, Log, Volume as VolumeOf, Chunk}
 use Rattle.site_votes.specs.Sent.{IsSentWhole, HasNoRoom, FailsOnVolume, IsCutIn, EndsIn}
-use Rattle.site_votes.specs.Stores.{FreeInOrder, IsSettled, MayUseStore, Votes}
+use Rattle.site_votes.specs.Stores.{MayUseStore, Votes}
 use Rattle.site_votes.specs.Voted.{MayHaveCommitted, IsCommitted, IsGivenUp, IsCutShort, VoteEnds}
 use Rattle.site_votes.proofs.OrderLemmas.{new_runs_some, new_runs_none, free_is}
 use Rattle.site_votes.proofs.StoreLemmas.{OneOf, each_of_one, Stays, agrees_still, given_up, no_room, has_sent}

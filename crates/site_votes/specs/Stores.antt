@@ -1,15 +1,11 @@
 -- What a vote on one object leaves of a store and of a site.
-use Rattle.std.specs.Prelude.{◌≡◌, ℕ, ◌==◌, List, filter, Result, Err, Some}
+use Rattle.std.specs.Prelude.{ℕ, List, Result, Err, Some}
 use Rattle.site_disk.specs.Ledger.{EraView, MayUse}
 use Rattle.site_disk.specs.declared.disk.Disk.{Ghosts}
-use Rattle.block_chain.specs.Blocks.{times}
 use Rattle.bsa_descriptor.specs.declared.descriptor.Descriptor.{Descriptor}
-use Rattle.catalogue_journal.specs.Catalogues.{cat_of, objects_of}
-use Rattle.object_store.specs.Holdings.{Holds, blocks_of_all}
-use Rattle.object_store.specs.Stores.{OfEach, IsOpenStore, MayUseEach}
+use Rattle.catalogue_journal.specs.Catalogues.{cat_of}
+use Rattle.object_store.specs.Stores.{MayUseEach}
 use Rattle.object_store.specs.declared.store.Store.{Store}
-use Rattle.object_volume.specs.Volumes.{free_of, blocks_in, IsIdle}
-use Rattle.site_worlds.specs.Objects.{numbers}
 use Rattle.site_courses.specs.Faults.{too_many_objects, catalogue_full}
 use Rattle.site_layouts.specs.Stages.{site_stage}
 use Rattle.site_core.specs.Calls.{CallFrom}
@@ -18,23 +14,10 @@ use Rattle.site_core.specs.Layers.{layers}
 use Rattle.site_core.specs.declared.faults.SiteFault.{SiteFault}
 use Rattle.site_core.specs.declared.faults.SiteFault.TheVariants.{CatalogueFull, TooManyObjects}
 use Rattle.site_core.specs.declared.site.Site.{Site}
-use Rattle.store_opening.specs.Opening.{live_on}
 use Rattle.walks.specs.Courses.{Call, only}
 use Rattle.site_votes.specs.Objects.{MayVoteOn, vote_course}
 
 module _ {D : Type 0} where
-  -- An open store in which no object is being sent: each volume holds just the live objects that stand on it.
-  pub record IsSettled (store : Store D) : Type 0 where
-    pub opened : IsOpenStore store
-    pub idle : OfEach (λ place volume. IsIdle volume) store.volumes.items
-    pub holds : OfEach (λ place volume. Holds volume (live_on place (objects_of store.cat))) store.volumes.items
-
-  -- the free blocks of each volume are in ascending order
-  abbrev pub FreeInOrder : Store D → Type 0
-  FreeInOrder store = OfEach (λ place volume.
-      free_of volume ≡ filter (λ block. times block (blocks_of_all (live_on place (objects_of store.cat))) == 0) (numbers (blocks_in volume)))
-      store.volumes.items
-
   -- the disks of the catalogue and of the volumes may be used in this era
   pub record MayUseStore (disk : Ghosts D) (era : EraView) (store : Store D) : Type 0 where
     pub cat : MayUse era (disk.ledger (cat_of store.cat))

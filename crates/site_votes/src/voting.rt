@@ -9,10 +9,11 @@ ghost use Rattle.session_machine.specs.Conditions.{IsSound};
 ghost use Rattle.session_machine.specs.Records.{may_create};
 ghost use Rattle.bsa_session.specs.Sessions.{state_of, Suits};
 ghost use Rattle.bsa_session.specs.Voting.{added_in};
+ghost use Rattle.store_opening.specs.Standing.{FreeInOrder, IsSettled};
 ghost use Rattle.site_votes.specs.Objects.{begun, IsSentIn};
 ghost use Rattle.site_votes.specs.Voted.{VoteEnds};
 ghost use Rattle.site_votes.specs.Sent.{SendEnds};
-ghost use Rattle.site_votes.specs.Stores.{FreeInOrder, IsSettled, MayUseStore, Votes};
+ghost use Rattle.site_votes.specs.Stores.{MayUseStore, Votes};
 
 use crate::faults::{lacks, session_fault};
 use crate::sending::{begin_session, send_object};

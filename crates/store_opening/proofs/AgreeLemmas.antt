@@ -18,7 +18,7 @@ use Rattle.catalogue_replay.specs.Places.{area_of, NamesArea, Journals}
 use Rattle.catalogue_journal.specs.Catalogues.{cat_of, spare_of, capacity_of, used_of, objects_of, contents_in, Stands, IsOpen as IsOpenCatalogue}
 use Rattle.catalogue_journal.specs.declared.catalogue.Catalogue.{Catalogue}
 use Rattle.object_volume.specs.Headers.{HasVolume}
-use Rattle.object_volume.specs.Volumes.{disk_of, number_of, blocks_in, IsIdle}
+use Rattle.object_volume.specs.Volumes.{disk_of, number_of, blocks_in, free_of, IsIdle}
 use Rattle.object_volume.specs.declared.volume.Volume.{Volume}
 use Rattle.object_store.specs.Holdings.{Holds}
 use Rattle.object_store.specs.Stores.{OfEach, IsOpenAt, IsOpenStore}
@@ -26,8 +26,8 @@ use Rattle.object_store.specs.declared.store.Store.{Store}
 use Rattle.object_store.proofs.ReturnLemmas.{get-within}
 use Rattle.store_opening.specs.Disks.{EachFrom, OneFrom, StopsAt, HasRisen, IsMadeStore, files_of}
 use Rattle.store_opening.specs.Faults.{fault_of_catalogue, IsDiskFault, IsOfVolume, IsRefusal}
-use Rattle.store_opening.specs.Opening.{live_on, IsBadPlace, IsFirstBadVolume, IsGoodVolume, IsGoodStore, ShowsStore, StoreRefuses, OpensVolume, MissesVolume}
-use Rattle.store_opening.specs.Standing.{IsBehind, Agrees}
+use Rattle.store_opening.specs.Opening.{live_on, blocks_beside, IsBadPlace, IsFirstBadVolume, IsGoodVolume, IsGoodStore, ShowsStore, StoreRefuses, OpensVolume, MissesVolume}
+use Rattle.store_opening.specs.Standing.{IsBehind, IsSettled, FreeInOrder, Agrees}
 use Rattle.store_opening.specs.declared.faults.StoreDisk.{StoreDisk}
 use Rattle.store_opening.specs.declared.faults.StoreFault.{StoreFault}
 use Rattle.store_opening.specs.declared.faults.StoreFault.TheVariants.{OutOfMemory, DiskFault, NotFormatted, BadRecord}
@@ -74,6 +74,20 @@ open_each {disk = disk} {era = era} {site = site} old new made opened from = rec
   count = from.count ∙ made.count;
   each = opened_each disk era site (objects_of new.cat) old.volumes.items new.volumes.items from made.numbers;
 }
+
+-- it is settled, and its free blocks are in order
+pub open_settled : {D : Type 0} {disk : Ghosts D} {era : EraView} {site : ℕ} (old new : Store D) → IsMadeStore old → IsOpenCatalogue new.cat
+    → EachFrom (OpensVolume disk era site (objects_of new.cat)) old.volumes.items new.volumes.items → IsSettled new × FreeInOrder new
+open_settled {disk = disk} {era = era} {site = site} old new made opened from = (
+  record {
+    opened = open_each old new made opened from;
+    idle = each_now (OpensVolume disk era site (objects_of new.cat)) (λ place volume. IsIdle volume) old.volumes.items new.volumes.items from (λ place was is there opens. opens.idle);
+    holds = each_now (OpensVolume disk era site (objects_of new.cat)) (λ place volume. Holds volume (live_on place (objects_of new.cat))) old.volumes.items new.volumes.items from
+        (λ place was is there opens. opens.holds);
+  },
+  each_now (OpensVolume disk era site (objects_of new.cat)) (λ place volume. free_of volume ≡ blocks_beside (live_on place (objects_of new.cat)) (blocks_in volume))
+      old.volumes.items new.volumes.items from (λ place was is there opens. opens.free),
+)
 
 used_in : {D : Type 0} (disk : Ghosts D) (store : Store D) (bytes : List ℕ) → IsOpenCatalogue store.cat → capacity_of store.cat ≡ slot_count
     → Stands (seen disk (cat_of store.cat)) store.cat → disk.bytes (cat_of store.cat) ≡ bytes → used_of store.cat ≡ used (area_of slot_count) bytes
@@ -201,6 +215,9 @@ module _ {D : Type 0} (disk : Ghosts D) (era : EraView) (old new : Store D) (mid
 
   pub opens_store : (site : ℕ) → EachFrom (OpensVolume disk era site (objects_of mid)) old.volumes.items new.volumes.items → IsOpenStore new
   opens_store site from = open_each old new made opened_now (volumes_now site from)
+
+  pub settles_store : (site : ℕ) → EachFrom (OpensVolume disk era site (objects_of mid)) old.volumes.items new.volumes.items → IsSettled new × FreeInOrder new
+  settles_store site from = open_settled old new made opened_now (volumes_now site from)
 
   pub has_opened : (head : Head) (reads : ℕ) → IsHead head × HasHeader (catalogue_tail head) (disk.bytes (cat_of old.cat)) → NamesArea (disk.bytes (cat_of old.cat))
       → HasHeader (spare_tail head.site) (disk.bytes (spare_of old.cat)) → Stands (seen disk (cat_of mid)) mid → disk.bytes (cat_of mid) ≡ disk.bytes (cat_of old.cat)

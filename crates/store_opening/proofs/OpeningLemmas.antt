@@ -3,9 +3,10 @@ use Rattle.std.proofs.Common.{◌≡◌, ℕ, ◌<◌, IsTrue, List, [], ◌∷�
 use Rattle.std.proofs.lemmas.Bool.{cases_lt}
 use Rattle.std.proofs.lemmas.List.Elements.{recursion_from_All}
 use Rattle.std.specs.List.{AllByRecursion}
+use Rattle.std.specs.Prelude.{◌==◌, filter}
 use Rattle.std.specs.declared.vec.Vec.{Vec}
 use Rattle.std.specs.declared.alloc.Global.{Global}
-use Rattle.block_chain.specs.Blocks.{times, AreSound, ArePartition, RefusesFirst, blocks_of_lists}
+use Rattle.block_chain.specs.Blocks.{times, ascending, AreSound, ArePartition, RefusesFirst, blocks_of_lists}
 use Rattle.block_chain.specs.BlocksLaws.{times-append}
 use Rattle.block_chain.specs.declared.runs.Run.{Run}
 use Rattle.site_disk.specs.Bytes.{Same}
@@ -67,10 +68,11 @@ module _ {D : Type 0} (disk : Ghosts D) (era : EraView) (site : ℕ) (objects : 
     blocks = blocks_of_lists-all live ∙ ap blocks_of_all lists
 
     pub opens : IsOpen is → IsIdle is → (IsTrue disk.is_modelled → HasVolume (number_of was) site (blocks_in is) (disk.bytes (disk_of was)))
+        → free_of is ≡ filter (λ block. times block (blocks_of_lists live) == 0) (ascending 0 (blocks_in is))
         → All (λ runs. IsLive is runs.items) live → ArePartition (blocks_in is) (free_of is ++ blocks_of_lists live)
         → disk.bytes (disk_of is) ≡ disk.bytes (disk_of was) → (IsTrue disk.is_modelled → OnlyAfter era.number (disk.bytes (disk_of is)) (disk.image (disk_of is)))
         → OpensVolume disk era site objects number was is
-    opens opened idle header each parted bytes durable =
+    opens opened idle header free each parted bytes durable =
         let part : ArePartition (blocks_in is) (free_of is ++ blocks_of_all (live_on number objects)) =
         subst (λ (l : List ℕ). ArePartition (blocks_in is) (free_of is ++ l)) blocks parted in
         record {
@@ -83,6 +85,7 @@ module _ {D : Type 0} (disk : Ghosts D) (era : EraView) (site : ℕ) (objects : 
             each = subst (AllByRecursion (IsLive is)) lists (each_live is live (recursion_from_All (λ (runs : Vec Run Global). IsLive is runs.items) live each));
             parted = subst (λ (sent : List ℕ). ArePartition (blocks_in is) (free_of is ++ (sent ++ blocks_of_all (live_on number objects)))) (sym (none_sent is idle)) part;
           };
+          free = free ∙ ap (λ (l : List ℕ). filter (λ block. times block l == 0) (ascending 0 (blocks_in is))) blocks;
           bytes = bytes;
           durable = durable;
           crash = crash;

@@ -1,6 +1,6 @@
 -- When a store is opened by what its disks hold, and which place refuses it.
-use Rattle.std.specs.Prelude.{◌≡◌, ◌⊎◌, ℕ, ◌<◌, true, false, IsTrue, List, map, slice_get, Some}
-use Rattle.block_chain.specs.Blocks.{AreSound}
+use Rattle.std.specs.Prelude.{◌≡◌, ◌⊎◌, ℕ, ◌<◌, ◌==◌, true, false, IsTrue, List, filter, map, slice_get, Some}
+use Rattle.block_chain.specs.Blocks.{times, ascending, AreSound}
 use Rattle.block_chain.specs.declared.runs.Run.{Run}
 use Rattle.gated_slots.specs.Slots.{used}
 use Rattle.site_disk.specs.Causes.{Rose}
@@ -14,7 +14,7 @@ use Rattle.catalogue_replay.specs.Contents.{Contents}
 use Rattle.catalogue_replay.specs.Places.{area_of}
 use Rattle.catalogue_replay.specs.Answers.{HasNoHead, IsCatalogue, IsFirstBad}
 use Rattle.object_volume.specs.Headers.{HasVolume, HasNoVolume, Overlaps}
-use Rattle.object_volume.specs.Volumes.{disk_of, number_of, blocks_in, IsOpen, IsIdle}
+use Rattle.object_volume.specs.Volumes.{disk_of, number_of, blocks_in, free_of, IsOpen, IsIdle}
 use Rattle.object_volume.specs.declared.volume.Volume.{Volume}
 use Rattle.object_store.specs.Holdings.{Holds, blocks_of_all}
 use Rattle.object_store.specs.Returns.{place_of_object, runs_on}
@@ -28,6 +28,10 @@ use Rattle.store_opening.specs.declared.faults.StoreFault.TheVariants.{OutOfMemo
 -- the runs of the live objects on a volume, object by object
 abbrev pub live_on : ℕ → List Object → List (List Run)
 live_on volume objects = runs_on volume (map place_of_object objects)
+
+-- of so many blocks those that no object has, ascending
+abbrev pub blocks_beside : List (List Run) → ℕ → List ℕ
+blocks_beside objects count = filter (λ block. times block (blocks_of_all objects) == 0) (ascending 0 count)
 
 -- ---- bytes
 
@@ -97,6 +101,7 @@ module _ {D : Type 0} (disk : Ghosts D) (era : EraView) (site : ℕ) (objects : 
     pub header : IsTrue disk.is_modelled → HasVolume number site (blocks_in is) (disk.bytes (disk_of was))
     pub sound : AreSound (blocks_in is) (blocks_of_all (live_on number objects))
     pub holds : Holds is (live_on number objects)
+    pub free : free_of is ≡ blocks_beside (live_on number objects) (blocks_in is)
     pub bytes : KeepsBytes disk.bytes (disk_of was) (disk_of is)
     pub durable : IsTrue disk.is_modelled → OnlyAfter era.number (disk.bytes (disk_of is)) (disk.image (disk_of is))
     pub crash : WritesNothing disk.image era (disk_of was) (disk_of is)

@@ -6,12 +6,23 @@ use Rattle.site_disk.specs.declared.disk.Disk.{Ghosts}
 use Rattle.site_headers.specs.Areas.{slot_count}
 use Rattle.site_headers.specs.Heads.{Head}
 use Rattle.catalogue_replay.specs.Contents.{Contents}
-use Rattle.catalogue_journal.specs.Catalogues.{cat_of, spare_of, capacity_of, used_of, contents_in, Stands}
-use Rattle.object_volume.specs.Volumes.{disk_of, blocks_in, IsIdle}
+use Rattle.catalogue_journal.specs.Catalogues.{cat_of, spare_of, capacity_of, used_of, objects_of, contents_in, Stands}
+use Rattle.object_volume.specs.Volumes.{disk_of, blocks_in, free_of, IsIdle}
 use Rattle.object_store.specs.Holdings.{Holds}
 use Rattle.object_store.specs.Stores.{OfEach, IsOpenStore}
 use Rattle.object_store.specs.declared.store.Store.{Store}
-use Rattle.store_opening.specs.Opening.{live_on}
+use Rattle.store_opening.specs.Opening.{live_on, blocks_beside}
+
+module _ {D : Type 0} where
+  -- An open store in which no object is being sent: each volume holds just the live objects that stand on it.
+  pub record IsSettled (store : Store D) : Type 0 where
+    pub opened : IsOpenStore store
+    pub idle : OfEach (λ place volume. IsIdle volume) store.volumes.items
+    pub holds : OfEach (λ place volume. Holds volume (live_on place (objects_of store.cat))) store.volumes.items
+
+  -- the free blocks of each volume are in ascending order
+  abbrev pub FreeInOrder : Store D → Type 0
+  FreeInOrder store = OfEach (λ place volume. free_of volume ≡ blocks_beside (live_on place (objects_of store.cat)) (blocks_in volume)) store.volumes.items
 
 -- a disk was used last before an era
 pub record IsBehind {D : Type 0} (ledger : D → Ledger) (from : ℕ) (disk : D) : Type 0 where

@@ -12,7 +12,7 @@ ghost use Rattle.object_store.specs.Stores.{OfEach, MayUseEach, IsOpenStore};
 ghost use Rattle.store_opening.specs.Disks.{At, EachDisk, EachFrom, files_of, HasRisen, IsDurable, IsMadeStore, KeepsBytes, MayUseStore, StopsAt, UsesStore, WritesNothing};
 ghost use Rattle.store_opening.specs.Faults.{IsFailure, IsNoDiskFault, IsRefusal, NamesAsWell};
 ghost use Rattle.store_opening.specs.Opening.{IsGoodStore, ShowsStore, StoreRefuses, OpensVolume, MissesVolume};
-ghost use Rattle.store_opening.specs.Standing.{Agrees};
+ghost use Rattle.store_opening.specs.Standing.{Agrees, FreeInOrder, IsSettled};
 
 use crate::faults::{StoreFault, catalogue_fault, volume_fault};
 use crate::live::live_runs;
@@ -34,6 +34,9 @@ pub fn open_store<D: Disk>(
     requires made { IsMadeStore store.old }
 
     ensures opened { OnOk result (IsOpenStore store.new) }
+    // No object is being sent, the volumes hold just the live objects, and their free blocks are in ascending order.
+    ensures settled { OnOk result (IsSettled store.new) }
+    ensures order { OnOk result (FreeInOrder store.new) }
     ensures good { IsTrue D.is_modelled → IfOk result (λ head. IsGoodStore (head_of head) (contents_in store.new.cat)
         (D.bytes (cat_of store.old.cat)) (D.bytes (spare_of store.old.cat)) (files_of D.bytes store.old.volumes.items)) }
     // Disks that show a store are opened as that, unless memory runs out or a disk fails.

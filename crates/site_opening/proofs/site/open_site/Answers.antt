@@ -1,5 +1,5 @@
 use Rattle.site_model.specs.declared.disk_name.DiskName.TheVariants.{Boot}
-use Rattle.site_opening.proofs.OpenLemmas.{answers, head, failed, only, opened, reads, refused_same, refuses, same, stands, still_made, told}
+use Rattle.site_opening.proofs.OpenLemmas.{answers, head, failed, in_order, only, opened, reads, refused_same, refuses, same, settled, stands, still_made, told}
 use Rattle.site_opening.proofs.PartLemmas.{may_store}
 use Rattle.site_opening.proofs.site.open_site.Goals as goal
 
@@ -26,6 +26,12 @@ returns-clause-failed g c = failed g.D.Disk c.args.era.now c.args.site.now c.ope
 
 pub returns-clause-opened : goal.returns-clause-opened
 returns-clause-opened g c = opened g.D.Disk c.args.era.now c.args.site.now c.open_parts.new.site c.requires.may c.requires.made c.open_parts.result c.open_parts.ensures
+
+pub returns-clause-settled : goal.returns-clause-settled
+returns-clause-settled g c = settled g.D.Disk c.args.era.now c.args.site.now c.open_parts.new.site c.requires.may c.requires.made c.open_parts.result c.open_parts.ensures
+
+pub returns-clause-order : goal.returns-clause-order
+returns-clause-order g c = in_order g.D.Disk c.args.era.now c.args.site.now c.open_parts.new.site c.requires.may c.requires.made c.open_parts.result c.open_parts.ensures
 
 pub returns-clause-made : goal.returns-clause-made
 returns-clause-made g c = still_made g.D.Disk c.args.era.now c.args.site.now c.open_parts.new.site c.requires.may c.requires.made c.open_parts.result c.open_parts.ensures

@@ -10,7 +10,7 @@ use Rattle.object_volume.specs.Volumes.{disk_of, number_of}
 use Rattle.object_volume.specs.declared.volume.Volume.{Volume}
 use Rattle.store_opening.specs.Disks.{files_of, KeepsBytes, WritesNothing}
 use Rattle.store_opening.specs.Opening.{OpensVolume, MissesVolume}
-use Rattle.store_opening.proofs.AgreeLemmas.{HasOpened, has_opened, opens_store, is_good, head_is, agrees, opened_catalogue, volumes_refuse, volumes_risen, cat_refuses}
+use Rattle.store_opening.proofs.AgreeLemmas.{HasOpened, has_opened, opens_store, settles_store, is_good, head_is, agrees, opened_catalogue, volumes_refuse, volumes_risen, cat_refuses}
 use Rattle.store_opening.proofs.FormatLemmas.{made_still, is_durable}
 use Rattle.store_opening.proofs.LoopLemmas.{each_means, each_now, stops_each}
 use Rattle.store_opening.proofs.StepLemmas.{writes_nothing, uses_none, each_disk, uses_store}
@@ -20,6 +20,14 @@ use Rattle.store_opening.proofs.opening.open_store.Goals as goal
 pub returns-clause-opened : goal.returns-clause-opened
 returns-clause-opened g c =
     opens_store g.D.Disk c.args.era.now c.args.store.now c.open_volumes.new.store c.open.new.self c.open_volumes.ensures.cat c.requires.made c.in-Ok.ensures.opened c.open.ensures.capacity c.in-Ok.head.site c.in_ok-open_volumes.ensures.volumes
+
+pub returns-clause-settled : goal.returns-clause-settled
+returns-clause-settled g c =
+    (settles_store g.D.Disk c.args.era.now c.args.store.now c.open_volumes.new.store c.open.new.self c.open_volumes.ensures.cat c.requires.made c.in-Ok.ensures.opened c.open.ensures.capacity c.in-Ok.head.site c.in_ok-open_volumes.ensures.volumes).0
+
+pub returns-clause-order : goal.returns-clause-order
+returns-clause-order g c =
+    (settles_store g.D.Disk c.args.era.now c.args.store.now c.open_volumes.new.store c.open.new.self c.open_volumes.ensures.cat c.requires.made c.in-Ok.ensures.opened c.open.ensures.capacity c.in-Ok.head.site c.in_ok-open_volumes.ensures.volumes).1
 
 pub returns-clause-good : goal.returns-clause-good
 returns-clause-good g c tells =

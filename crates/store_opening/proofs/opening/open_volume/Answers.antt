@@ -15,7 +15,7 @@ returns-in-Ok-open g c =
     let lists : map runs_in c.deref.result.now ≡ live_on c.args.number (map object_of c.args.objects.now) =
     ap (λ (l : List (Vec Run Global)). map runs_in l) c.deref.ensures.value ∙ c.in-Ok.ensures in
     opens g.D.Disk c.args.era.now c.args.site (map object_of c.args.objects.now) c.args.number c.deref.result.now c.args.volume.now c.open.new.self lists c.requires.number c.open.ensures.number
-    c.open.ensures.crash c.open.ensures.ledger c.in-Ok-open.ensures.opened c.in-Ok-open.ensures.idle (λ tells. c.in-Ok-open.ensures.header tells) c.in-Ok-open.ensures.live c.in-Ok-open.ensures.parted
+    c.open.ensures.crash c.open.ensures.ledger c.in-Ok-open.ensures.opened c.in-Ok-open.ensures.idle (λ tells. c.in-Ok-open.ensures.header tells) c.in-Ok-open.ensures.free c.in-Ok-open.ensures.live c.in-Ok-open.ensures.parted
     c.in-Ok-open.ensures.bytes (λ tells. c.in-Ok-open.ensures.durable tells)
 
 pub returns : goal.returns

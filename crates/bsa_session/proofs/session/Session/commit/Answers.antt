@@ -1,6 +1,7 @@
-use Rattle.std.proofs.Common.{◌≡◌, ◌+◌, sym, subst}
-use Rattle.catalogue_journal.specs.Catalogues.{cat_of, spare_of, capacity_of, objects_of, contents_in}
+use Rattle.std.proofs.Common.{◌≡◌, ◌+◌, false, refl, sym, subst}
+use Rattle.catalogue_journal.specs.Catalogues.{cat_of, spare_of, capacity_of, used_of, objects_of, contents_in}
 use Rattle.catalogue_journal.specs.Commits.{Ends}
+use Rattle.catalogue_journal.specs.Refusals.{HasRoom}
 use Rattle.catalogue_journal.specs.Transactions.{ended, slots_wanted}
 use Rattle.object_store.specs.Endings.{places, HoldAll, HoldWith}
 use Rattle.object_store.specs.Returns.{AllGiveBack}
@@ -32,6 +33,22 @@ returns-in-Ok-clause-returned g c =
     let was : state_of c.args.self.now ≡ machine.waiting (draft_of t) = waiting_view c.args.self.now.state t c.take_transaction-transaction.ensures.taken c.requires.waiting in
     subst (λ (s : machine.State). AllGiveBack g.D.Disk.is_modelled g.D.Disk.bytes (returned_by 1 (objects_of c.args.store.now.cat) s) c.args.store.now.volumes.items c.commit.new.self.volumes.items)
     (sym was) c.in-Ok.ensures.returned
+
+pub returns-in-Ok-clause-room : goal.returns-in-Ok-clause-room
+returns-in-Ok-clause-room g c =
+    let t = c.take_transaction-transaction.result in
+    let was : state_of c.args.self.now ≡ machine.waiting (draft_of t) = waiting_view c.args.self.now.state t c.take_transaction-transaction.ensures.taken c.requires.waiting in
+    let cat = c.args.store.now.cat in
+    subst (λ (s : machine.State). HasRoom (capacity_of cat) (used_of cat) (deleted_in s) (added_in s) (contents_in cat))
+    (sym was) c.in-Ok.ensures.room
+
+pub returns-in-Err-Failed-false-clause-failed_room : goal.returns-in-Err-Failed-false-clause-failed_room
+returns-in-Err-Failed-false-clause-failed_room g c is =
+    let t = c.take_transaction-transaction.result in
+    let was : state_of c.args.self.now ≡ machine.waiting (draft_of t) = waiting_view c.args.self.now.state t c.take_transaction-transaction.ensures.taken c.requires.waiting in
+    let cat = c.args.store.now.cat in
+    subst (λ (s : machine.State). HasRoom (capacity_of cat) (used_of cat) (deleted_in s) (added_in s) (contents_in cat))
+    (sym was) (c.in-Err-Failed-false.ensures.failed_room false refl)
 
 pub returns-in-Ok-clause-holds : goal.returns-in-Ok-clause-holds
 returns-in-Ok-clause-holds g c others hold =

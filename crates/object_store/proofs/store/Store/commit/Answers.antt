@@ -46,6 +46,9 @@ returns-clause-opened g c =
           (ap (λ (l : List (Volume g.row.D.Denot)). slice_get l place) (sym back) ∙ there);
     }
 
+pub returns-clause-room : goal.returns-clause-room
+returns-clause-room g c = record { within = c.in_ok-copies.ensures.within; room = c.in_ok-copies.ensures.room }
+
 pub returns-clause-holds : goal.returns-clause-holds
 returns-clause-holds g c others hold place volume there =
     let old = c.args.self.now.volumes.items in
