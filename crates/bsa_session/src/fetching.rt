@@ -1,5 +1,5 @@
 //! Objects that are fetched.
-ghost use Rattle.std.specs.Prelude.{◌≡◌, ◌<◌, ℕ, length, drop, false, true, Some, Err, IfOk, IfErr};
+ghost use Rattle.std.specs.Prelude.{◌≡◌, ◌<◌, ◌≤◌, ℕ, length, drop, false, true, Some, Err, IfOk, IfErr};
 ghost use Rattle.catalogue_slots.specs.Records.{Object as Object-of};
 ghost use Rattle.catalogue_journal.specs.Catalogues.{objects_of};
 ghost use Rattle.object_store.specs.Reading.{reads_on, part_on, ChangesOne, IsRead};
@@ -95,6 +95,7 @@ impl Session {
         requires reads_on { CanReadOn self.old (objects_of store.old.cat) }
         ensures table { GetsData D.is_modelled (part_on D.bytes store.old.volumes.items (length into.old)) (objects_of store.old.cat)
             (state_of self.old) (state_of self.new) into.new result }
+        ensures bound { IfOk result (λ n. n ≤ length into.old) }
         ensures rest { IfOk result (λ n. drop n into.new ≡ drop n into.old) }
         ensures refused { IfErr result (λ answer. IsNoFailure answer → self.new ≡ self.old) }
         ensures sound { IsSound (state_of self.new) }

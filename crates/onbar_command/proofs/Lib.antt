@@ -1,4 +1,3 @@
-mod ListLemmas
 mod RefusalLemmas
 mod SoundLemmas
 mod TextLemmas

@@ -15,7 +15,7 @@ use Rattle.site_forms.specs.declared.report.Report.{Report}
 use Rattle.site_forms.specs.Reports.{status_told, text_told}
 use Rattle.onbar_command.specs.Answers.{PrintsRefusal}
 use Rattle.onbar_command.specs.Commands.{ComesTo, Did, IsOver, PrintedFor}
-use Rattle.onbar_command.specs.Printing.{TakesFront}
+use Rattle.command_texts.specs.Printing.{TakesFront}
 use Rattle.onbar_command.proofs.RefusalLemmas.{of_report, uncut}
 
 -- a form that is cut short has no text

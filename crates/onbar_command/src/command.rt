@@ -18,8 +18,8 @@ ghost use Rattle.onbar_command.specs.Answers.{IsMet, IsOfWork, IsUsage, PrintsRe
 ghost use Rattle.onbar_command.specs.Commands.{Did, PassesFor, PrintedFor, PromisesFor, RestsFor, ShownFor};
 
 use crate::form::run_words;
-use crate::printing::print_all;
 use crate::report::told;
+use command_texts::print_all;
 use site_core::Site;
 use site_disk::{Disk, Era, Failed, Sink, Source};
 use site_model::Status;

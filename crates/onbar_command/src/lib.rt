@@ -6,7 +6,6 @@
 
 mod command;
 mod form;
-mod printing;
 mod report;
 mod text;
 

@@ -5,7 +5,8 @@ ghost use Rattle.site_headers.specs.Views.{spaces_of};
 ghost use Rattle.site_model.specs.Texts.{space_text, status_text};
 ghost use Rattle.site_forms.specs.Reports.{status_of_end, status_told, text_told};
 
-use crate::text::{counts_line, push_space_line, status_line};
+use crate::text::{counts_line, push_space_line};
+use command_texts::status_line;
 use site_forms::Report;
 use site_headers::SpaceHead;
 use site_model::Status;

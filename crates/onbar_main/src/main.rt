@@ -6,57 +6,16 @@
 //! Where the command can't begin or is cut short, a line on standard error says what was in its way.
 #![tactic(auto)]
 
-ghost use Rattle.std.specs.Prelude.{◌<◌, ◌≤◌, ◌-◌, ◌^◌, length, IfOk};
-
-mod ending;
-mod opening;
-
-use ending::{StartFault, cut_of, start_status};
 use host_disk::{StdSink, StdSource};
+use host_folder::{StartFault, cut_of, moment_of, open_folder, open_site, start_status, words_of};
 use onbar_command::onbar;
-use opening::{open_folder, open_site};
 use site_disk::Era;
 use site_model::exit_status;
 use std::alloc::Global;
-use std::env;
 use std::fs::File;
 use std::process::ExitCode;
 use std::rt::{Clock, Env, Files};
 use std::thread::Threads;
-use std::time::{SystemTime, UNIX_EPOCH};
-
-/// The last moment that a command takes: 9999-12-31 23:59:59, in seconds from 1970.
-const LAST_MOMENT: u64 = 253402300799;
-
-/// More words than a command takes.
-const MAX_WORDS: usize = 4294967295;
-
-// The time in seconds from 1970, at most the last moment; 0 where the clock is set before 1970 or can't be read.
-fn moment_of<R: Clock>(rt: &R) -> u64
-    ensures { result ≤ 253402300799 }
-{
-    let Ok(now) = SystemTime::now(rt) else {
-        return 0;
-    };
-    match now.duration_since(UNIX_EPOCH) {
-        Ok(passed) => passed.as_secs().min(LAST_MOMENT),
-        Err(_) => 0,
-    }
-}
-
-// The words behind the program's name.
-fn words_of<R: Env + AllocGlobal>(rt: &R) -> Result<Vec<String>, StartFault>
-    ensures { IfOk result (λ words. length words.items < 2 ^ 32 - 1) }
-{
-    let mut words = env::args(rt)?;
-    let _program = words.next();
-    let words: Vec<String> = words.collect(rt.alloc())?;
-    if words.len() < MAX_WORDS {
-        Ok(words)
-    } else {
-        Err(StartFault::Words)
-    }
-}
 
 fn run<R>(rt: &R, alloc: Global) -> Result<u8, StartFault>
 where

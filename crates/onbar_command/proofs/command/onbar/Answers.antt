@@ -12,7 +12,7 @@ use Rattle.site_forms.specs.Reports.{status_told, text_told}
 use Rattle.site_forms.specs.Starts.{IsKept, IsOfChunk}
 use Rattle.onbar_command.specs.Answers.{IsMet, IsOfWork, WordsMayMeet}
 use Rattle.onbar_command.specs.Commands.{ComesTo, Did}
-use Rattle.onbar_command.specs.Printing.{TakesFront}
+use Rattle.command_texts.specs.Printing.{TakesFront}
 use Rattle.onbar_command.proofs.RefusalLemmas.{answered_so, cause_of_disks, complete_so, end_so, is_err, kept_so, opened_so, refused_once, refused_so, usage_told, work_so}
 use Rattle.onbar_command.proofs.TextLemmas.{did, printed_front, prints_nothing, prints_part, prints_whole, refusal_printed, usage_front}
 use Rattle.onbar_command.proofs.command.onbar.Goals as goal

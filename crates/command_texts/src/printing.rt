@@ -1,7 +1,7 @@
 // Printing a whole text to a sink that takes pieces.
 ghost use Rattle.std.specs.Prelude.{◌≡◌, ℕ, ◌≤◌, ◌++◌, List, length, take, IsTrue, OnOk, OnErr};
 ghost use Rattle.site_disk.specs.Causes.{HasCause};
-ghost use Rattle.onbar_command.specs.Printing.{TakesFront};
+ghost use Rattle.command_texts.specs.Printing.{TakesFront};
 
 use site_disk::{Failed, Sink};
 

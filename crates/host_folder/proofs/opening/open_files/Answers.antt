@@ -1,6 +1,6 @@
 use Rattle.host_disk.specs.Files.{file_ledger}
-use Rattle.onbar_main.proofs.DisksLemmas.{site_may, new_may}
-use Rattle.onbar_main.proofs.opening.open_files.Goals as goal
+use Rattle.host_folder.proofs.DisksLemmas.{site_may, new_may}
+use Rattle.host_folder.proofs.opening.open_files.Goals as goal
 
 -- each disk has the era's key, and was last used in it
 pub returns-clause-may : goal.returns-clause-may

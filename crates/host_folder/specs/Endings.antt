@@ -4,9 +4,9 @@ use Rattle.std.specs.declared.io.Error.{Error}
 use Rattle.host_disk.specs.declared.file.FileDisk.{FileDisk}
 use Rattle.site_core.specs.Disks.{disk_named}
 use Rattle.site_core.specs.declared.site.Site.{Site}
-use Rattle.onbar_main.specs.declared.ending.StartFault.{StartFault}
+use Rattle.host_folder.specs.declared.ending.StartFault.{StartFault}
 use Rattle.site_model.specs.declared.disk_name.DiskName.{DiskName}
-use Rattle.onbar_main.specs.declared.ending.StartFault.TheVariants.{OutOfMemory as NoMemory, Disk, Held, Folder, Words}
+use Rattle.host_folder.specs.declared.ending.StartFault.TheVariants.{OutOfMemory as NoMemory, Disk, Held, Folder, Words}
 
 -- of a command that couldn't begin: those of want of memory and of a disk's fault, and one of its own
 abbrev pub start_number : StartFault → ℕ

@@ -1,7 +1,7 @@
 // How the process ends.
 ghost use Rattle.std.specs.Prelude.{◌≡◌, ◌↔◌, Some, IsSome};
 ghost use Rattle.std.specs.declared.io.Error.{Error};
-ghost use Rattle.onbar_main.specs.Endings.{error_on, start_number};
+ghost use Rattle.host_folder.specs.Endings.{error_on, start_number};
 ghost use Rattle.site_commands.specs.Commands.{CutsShort};
 ghost use Rattle.site_model.specs.declared.disk_name.DiskName.{DiskName as NameView};
 ghost use Rattle.site_model.specs.declared.disk_name.DiskName.TheVariants.{Cat, Spare, Volume, Chunk};

@@ -1,5 +1,5 @@
 use Rattle.std.proofs.Common.{◌≡◌, ◌≤◌, ◌++◌, ◌-◌, length, take, IsTrue}
-use Rattle.onbar_command.proofs.printing.print_all.Given as goal
+use Rattle.command_texts.proofs.printing.print_all.Given as goal
 
 abbrev pub invariant-loop-at : goal.invariant-loop-at
 invariant-loop-at g l = record {

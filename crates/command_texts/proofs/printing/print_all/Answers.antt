@@ -1,6 +1,6 @@
 use Rattle.std.proofs.Common.{arith}
-use Rattle.onbar_command.proofs.ListLemmas.{front_more, within_more}
-use Rattle.onbar_command.proofs.printing.print_all.Goals as goal
+use Rattle.command_texts.proofs.ListLemmas.{front_more, within_more}
+use Rattle.command_texts.proofs.printing.print_all.Goals as goal
 
 pub loop-at-preserved : goal.loop-at-preserved
 loop-at-preserved g c = record {

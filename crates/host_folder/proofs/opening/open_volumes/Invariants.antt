@@ -1,7 +1,7 @@
 use Rattle.std.proofs.Common.{◌≡◌, All, length}
 use Rattle.host_disk.specs.Files.{file_ledger}
 use Rattle.site_disk.specs.Ledger.{MayUse}
-use Rattle.onbar_main.proofs.opening.open_chunks.Given as goal
+use Rattle.host_folder.proofs.opening.open_volumes.Given as goal
 
 -- the disks so far may be used
 abbrev pub invariant-loop-n : goal.invariant-loop-n
