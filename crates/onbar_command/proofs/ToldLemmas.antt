@@ -28,6 +28,13 @@ module _ (done : Result Report Status) (tells : Bool) (before after : List ℕ) 
       (λ (cut : IsCutOff done tells before after status). of_other status cut.untold)
       told
 
+  -- what follows of the status of what was done follows of the command's, where no status has it that comes where it isn't told
+  pub from_told : {B : Type 0} (A : Status → Type 0) → (A (status_told done) → B) → ((other : Status) → IsUntold other → A other → ⊥) → A status → B
+  from_told {B} A of_done none is = ⊎_elim
+      (λ (whole : IsTold done tells before after status). of_done (subst A whole.status_is is))
+      (λ (cut : IsCutOff done tells before after status). absurd (none status cut.untold is))
+      told
+
   -- at most a front of the text was printed, or all of it
   pub front_told : IsTrue tells → PrintsFront (text_told done) before after
   front_told is = ⊎_elim

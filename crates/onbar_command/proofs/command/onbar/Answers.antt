@@ -17,7 +17,7 @@ use Rattle.onbar_command.specs.Commands.{ComesTo, Did, PrintedFor}
 use Rattle.onbar_command.specs.Told.{IsTold, IsCutOff, IsUntold}
 use Rattle.onbar_command.proofs.RefusalLemmas.{answered_so, cause_of_disks, complete_so, end_so, is_err, kept_so, not_cut_of_disks, opened_so, refused_once, refused_so, uncut, usage_told, work_so}
 use Rattle.onbar_command.proofs.TextLemmas.{cut_text, did, printed_front, printed_none, refusal_printed, usage_front}
-use Rattle.onbar_command.proofs.ToldLemmas.{by_told, front_told, nothing_added, untold_cuts, untold_is}
+use Rattle.onbar_command.proofs.ToldLemmas.{by_told, from_told, front_told, nothing_added, untold_cuts, untold_is}
 use Rattle.onbar_command.proofs.command.onbar.Goals as goal
 
 -- ---- what the disks' bytes refuse
@@ -128,17 +128,17 @@ returns-clause-cut g c tells_disk tells_source tells_sink at shown is_cut =
 pub returns-clause-written : goal.returns-clause-written
 returns-clause-written g c work command is =
     let words = map string_bytes c.args.words.now in
-    by_told c.run_words-done.result _ _ _ c.tell.result c.tell.ensures.tells (λ (s : Status). IsOfWork s → _)
+    from_told c.run_words-done.result _ _ _ c.tell.result c.tell.ensures.tells IsOfWork
     (work_so words (contents_of g.D.Disk c.args.site.now) c.run_words-done.result c.run_words-done.ensures.answered (c.run_words-done.ensures.written command is))
-    (λ other untold of. absurd (uncut other of (untold_cuts other untold))) work
+    (λ other untold of. uncut other of (untold_cuts other untold)) work
 
 -- ---- where it is cut short
 
 pub returns-clause-read_fault : goal.returns-clause-read_fault
 returns-clause-read_fault g c is =
-    by_told c.run_words-done.result _ _ _ c.tell.result c.tell.ensures.tells (λ (s : Status). s ≡ ReadFault → Rose (g.S.Source.faults c.args.script.now) (g.S.Source.faults c.run_words-done.new.source))
+    from_told c.run_words-done.result _ _ _ c.tell.result c.tell.ensures.tells (λ (s : Status). s ≡ ReadFault)
     (λ told. c.run_words-done.ensures.read_fault (is_err c.run_words-done.result ReadFault tt told))
-    (λ other untold told. absurd (subst IsUntold told untold)) is
+    (λ other untold told. subst IsUntold told untold) is
 
 pub returns-clause-write_fault : goal.returns-clause-write_fault
 returns-clause-write_fault g c is = ⊎_elim
@@ -148,9 +148,9 @@ returns-clause-write_fault g c is = ⊎_elim
 
 pub returns-clause-disk_fault : goal.returns-clause-disk_fault
 returns-clause-disk_fault g c name is =
-    by_told c.run_words-done.result _ _ _ c.tell.result c.tell.ensures.tells (λ (s : Status). s ≡ DiskFault name → _)
+    from_told c.run_words-done.result _ _ _ c.tell.result c.tell.ensures.tells (λ (s : Status). s ≡ DiskFault name)
     (λ told. c.run_words-done.ensures.disk_fault name (is_err c.run_words-done.result (DiskFault name) tt told))
-    (λ other untold told. absurd (subst IsUntold told untold)) is
+    (λ other untold told. subst IsUntold told untold) is
 
 pub returns-clause-complete : goal.returns-clause-complete
 returns-clause-complete g c tells_disk tells_source at shown no_read no_write no_disk =
@@ -168,9 +168,9 @@ returns-clause-script g c tells_source =
     record {
       front = done.taken tells_source;
       nothing = λ no. ap (λ s. g.S.Source.left s) (done.unread no);
-      to_end = λ reads is. by_told c.run_words-done.result _ _ _ c.tell.result c.tell.ensures.tells (λ (s : Status). s ≡ Done → _)
+      to_end = λ reads is. from_told c.run_words-done.result _ _ _ c.tell.result c.tell.ensures.tells (λ (s : Status). s ≡ Done)
           (end_so (map string_bytes c.args.words.now) (contents_of g.D.Disk c.args.site.now) c.run_words-done.result _ done.answered (done.to_end tells_source reads))
-          (λ other untold told. absurd (subst IsUntold told untold)) is;
+          (λ other untold told. subst IsUntold told untold) is;
     }
 
 pub returns-clause-usage : goal.returns-clause-usage
