@@ -1,0 +1,14 @@
+pub mod ListLemmas
+pub mod MatchLemmas
+pub mod ServingLemmas
+pub mod StepLemmas
+pub mod SendLemmas
+pub mod BackLemmas
+pub mod LeadLemmas
+pub mod StoreLemmas
+pub mod FetchLemmas
+pub mod EndLemmas
+pub mod ShellLemmas
+pub mod LineLemmas
+pub mod RunLemmas
+pub mod FaultLemmas
