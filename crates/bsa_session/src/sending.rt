@@ -117,6 +117,7 @@ impl Session {
         ensures refused_volume { result ≢ BsaRc.Success → volume.new ≡ volume.old }
         ensures sound { IsSound (state_of self.new) }
         ensures volume { Suits D.is_modelled D.bytes (state_of self.new) volume.new }
+        ensures number { number_of volume.new ≡ number_of volume.old }
 
         ensures begun { result ≡ BsaRc.Success → Sends D.is_modelled D.bytes volume.new [] }
         ensures none_taken { result ≡ BsaRc.Success → blocks_sent volume.new ≡ [] }
@@ -148,6 +149,7 @@ impl Session {
         ensures refused { IsNoFailure result → self.new ≡ self.old }
         ensures sound { IsSound (state_of self.new) }
         ensures volume { Suits D.is_modelled D.bytes (state_of self.new) volume.new }
+        ensures number { number_of volume.new ≡ number_of volume.old }
 
         ensures sends { (message : List ℕ) → Sends D.is_modelled D.bytes volume.old message
             → result ≡ BsaRc.Success → Sends D.is_modelled D.bytes volume.new (message ++ bytes.now) }
@@ -199,6 +201,7 @@ impl Session {
         ensures refused { result ≡ Err BsaRc.InvalidCallSequence → self.new ≡ self.old }
         ensures sound { IsSound (state_of self.new) }
         ensures volume { Suits D.is_modelled D.bytes (state_of self.new) volume.new }
+        ensures number { number_of volume.new ≡ number_of volume.old }
         ensures others { is_sending (state_of self.old) ≡ false → volume.new ≡ volume.old }
 
         ensures sent { IfOk result (λ ended. IfSome ended (λ sent. (message : List ℕ) → Sends D.is_modelled D.bytes volume.old message

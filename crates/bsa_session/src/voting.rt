@@ -4,7 +4,7 @@ ghost use Rattle.block_chain.specs.declared.runs.Run.{Run as Run-of-blocks};
 ghost use Rattle.site_disk.specs.Causes.{Rose};
 ghost use Rattle.site_disk.specs.Ledger.{MayUse, Spends};
 ghost use Rattle.site_disk.specs.Seen.{seen};
-ghost use Rattle.catalogue_journal.specs.Catalogues.{additions_of, ids_from, cat_of, spare_of, capacity_of, used_of, objects_of, contents_in, IsAsItWas, Stands};
+ghost use Rattle.catalogue_journal.specs.Catalogues.{additions_of, ids_from, cat_of, spare_of, capacity_of, used_of, objects_of, contents_in, IsMade, IsAsItWas, Stands};
 ghost use Rattle.catalogue_journal.specs.Commits.{Ends};
 ghost use Rattle.catalogue_journal.specs.Refusals.{HasRoom};
 ghost use Rattle.catalogue_journal.specs.Transactions.{ended, slots_wanted};
@@ -65,6 +65,7 @@ impl Session {
             ≡ ended (deleted_in (state_of self.old)) (added_in (state_of self.old)) (contents_in store.old.cat)) }
         ensures used { vote ≡ 1 → OnOk result (used_of store.new.cat
             ≡ used_of store.old.cat + slots_wanted (deleted_in (state_of self.old)) (added_in (state_of self.old))) }
+        ensures made { IsMade store.old.cat → IsMade store.new.cat }
         ensures capacity { capacity_of store.new.cat ≡ capacity_of store.old.cat }
         ensures aborted { vote ≢ 1 → store.new.cat ≡ store.old.cat }
         ensures stands { IsTrue D.is_modelled → Stands (seen D.Disk (cat_of store.old.cat)) store.old.cat
@@ -140,6 +141,7 @@ impl Session {
             ≡ ended (deleted_in (state_of self.old)) (added_in (state_of self.old)) (contents_in store.old.cat)) }
         ensures used { OnOk result (used_of store.new.cat
             ≡ used_of store.old.cat + slots_wanted (deleted_in (state_of self.old)) (added_in (state_of self.old))) }
+        ensures made { IsMade store.new.cat }
         ensures capacity { capacity_of store.new.cat ≡ capacity_of store.old.cat }
         ensures stands { IsTrue D.is_modelled → Stands (seen D.Disk (cat_of store.old.cat)) store.old.cat
             → OnOk result (Stands (seen D.Disk (cat_of store.new.cat)) store.new.cat) }

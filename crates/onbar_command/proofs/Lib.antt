@@ -1,4 +1,5 @@
 mod RefusalLemmas
 mod SoundLemmas
 mod TextLemmas
+mod ToldLemmas
 mod WordsLemmas

@@ -47,7 +47,7 @@ uncut WriteFault work cut = work
 uncut (DiskFault name) work cut = work
 uncut status work cut = cut
 
-not_cut_of_disks : (status : Status) → IsOfDisks status → CutsShort status → ⊥
+pub not_cut_of_disks : (status : Status) → IsOfDisks status → CutsShort status → ⊥
 not_cut_of_disks OutOfMemory of cut = of
 not_cut_of_disks ReadFault of cut = of
 not_cut_of_disks WriteFault of cut = of

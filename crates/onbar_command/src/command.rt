@@ -18,12 +18,11 @@ ghost use Rattle.onbar_command.specs.Answers.{IsMet, IsOfWork, IsUsage, PrintsRe
 ghost use Rattle.onbar_command.specs.Commands.{Did, PassesFor, PrintedFor, PromisesFor, RestsFor, ShownFor};
 
 use crate::form::run_words;
-use crate::report::told;
-use command_texts::print_all;
+use crate::telling::tell;
 use site_core::Site;
-use site_disk::{Disk, Era, Failed, Sink, Source};
+use site_disk::{Disk, Era, Sink, Source};
 use site_model::Status;
-use std::alloc::{AllocError, Global};
+use std::alloc::Global;
 use std::thread::Threads;
 
 /// Does what the words say at a moment, in seconds from 1970: `-init` formats a site, `-T` extends its log by the
@@ -116,12 +115,5 @@ pub fn onbar<R: Threads + Sync, D: Disk + Send, S: Source, K: Sink>(
 {
     let done = run_words(alloc, words, site, era, script, moment);
     era.next();
-    let (text, status) = match told(alloc, done) {
-        Ok(told) => told,
-        Err(AllocError) => return Status::OutOfMemory,
-    };
-    match print_all(out, text.as_bytes()) {
-        Ok(()) => status,
-        Err(Failed) => Status::WriteFault,
-    }
+    tell(alloc, out, done)
 }

@@ -7,6 +7,7 @@
 mod command;
 mod form;
 mod report;
+mod telling;
 mod text;
 
 pub use command::onbar;

@@ -1,4 +1,6 @@
-use Rattle.std.proofs.Common.{◌≡◌, ◌+◌, false, refl, sym, subst}
+use Rattle.std.proofs.Common.{◌≡◌, ◌+◌, false, Err, ap, sym, subst}
+use Rattle.catalogue_replay.specs.declared.faults.CatFault.{CatFault}
+use Rattle.catalogue_replay.specs.declared.faults.CatFault.TheVariants.{Failed}
 use Rattle.catalogue_journal.specs.Catalogues.{cat_of, spare_of, capacity_of, used_of, objects_of, contents_in}
 use Rattle.catalogue_journal.specs.Commits.{Ends}
 use Rattle.catalogue_journal.specs.Refusals.{HasRoom}
@@ -46,9 +48,10 @@ pub returns-in-Err-Failed-false-clause-failed_room : goal.returns-in-Err-Failed-
 returns-in-Err-Failed-false-clause-failed_room g c is =
     let t = c.take_transaction-transaction.result in
     let was : state_of c.args.self.now ≡ machine.waiting (draft_of t) = waiting_view c.args.self.now.state t c.take_transaction-transaction.ensures.taken c.requires.waiting in
+    let told : c.in-Err-Failed-false.field-0 ≡ Failed false = cc in
     let cat = c.args.store.now.cat in
     subst (λ (s : machine.State). HasRoom (capacity_of cat) (used_of cat) (deleted_in s) (added_in s) (contents_in cat))
-    (sym was) (c.in-Err-Failed-false.ensures.failed_room false refl)
+    (sym was) (c.in-Err-Failed-false.ensures.failed_room false (ap (λ (fault : CatFault). Err fault) told))
 
 pub returns-in-Ok-clause-holds : goal.returns-in-Ok-clause-holds
 returns-in-Ok-clause-holds g c others hold =
