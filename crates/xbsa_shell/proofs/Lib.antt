@@ -12,3 +12,4 @@ pub mod ShellLemmas
 pub mod LineLemmas
 pub mod RunLemmas
 pub mod FaultLemmas
+pub mod ScriptLemmas

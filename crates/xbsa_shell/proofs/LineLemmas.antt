@@ -5,7 +5,8 @@ use Rattle.site_disk.specs.Ledger.{EraView}
 use Rattle.site_disk.specs.declared.disk.Disk.{Ghosts}
 use Rattle.bsa_descriptor.specs.declared.descriptor.Descriptor.{Descriptor}
 use Rattle.bsa_lines.specs.BsaLine.{line_of_bsa}
-use Rattle.bsa_lines.specs.Lines.{Line}
+use Rattle.bsa_lines.specs.Lines.{Line, begin_line, end_line, init_line}
+use Rattle.bsa_lines.specs.declared.lines.BsaLine.TheVariants.{Begin, End, Init}
 use Rattle.bsa_lines.specs.declared.lines.BsaLine.{BsaLine}
 use Rattle.catalogue_journal.specs.Catalogues.{capacity_of, contents_in, objects_of, used_of}
 use Rattle.catalogue_journal.specs.declared.catalogue.Catalogue.{Catalogue}
@@ -17,7 +18,7 @@ use Rattle.session_machine.specs.declared.answers.BsaRc.{BsaRc}
 use Rattle.bsa_session.specs.Reading.{CanReadOn}
 use Rattle.bsa_session.specs.Sessions.{state_of}
 use Rattle.bsa_transcripts.specs.Fields.{after_line, fields_of}
-use Rattle.bsa_transcripts.specs.Lines.{Calls, IsCode, Setting, Stand, Stays, Steps}
+use Rattle.bsa_transcripts.specs.Lines.{Calls, IsCode, Setting, Stand, Stays, Steps, Votes}
 use Rattle.bsa_transcripts.specs.declared.fields.Fields.{Fields}
 use Rattle.bsa_transcripts.specs.declared.replies.Reply.{Reply}
 use Rattle.bsa_transcripts.specs.declared.replies.Reply.TheVariants.{Nothing, Code, Sent, Found, Opened, Given, Ended}
@@ -105,3 +106,48 @@ module _ {D : Type 0} (disk : Ghosts D) (era : EraView) (shell now : Shell) (sto
       (begin_serves disk era store (state_of shell.session) (state_of now.session) code.0 code.1 sound before.serves)
       (begin_place shell.volume (objects_of store.cat) (state_of shell.session) (state_of now.session) code.0 before.place code.1)
       reads
+
+-- ---- lines whose runs aren't found
+
+module _ {D : Type 0} (disk : Ghosts D) (moment : ℕ) where
+  abbrev RunsAs : EraView → Shell → Shell → Store D → Store D → Line → Result Reply Status → Type 0
+  RunsAs to shell now old new line result = IfOk result (RunsLine disk moment line to shell now old new)
+
+  module _ (era : EraView) (shell : Shell) (fields : Fields) (now : Shell) (store : Store D) (line : BsaLine) where
+    pub init_runs : (volume : ℕ) → line ≡ Init volume → fields_of fields ≡ after_line (line_of_bsa line) (fields_of shell.fields) → now.fields ≡ fields
+        → ServesShell disk era shell store → (result : Result Reply Status)
+        → IfOk result (IsCode (Inits volume moment (state_of shell.session) (state_of now.session))) → IsSound (state_of now.session)
+        → IsPlace now.volume (state_of now.session) → now.volume ≤ 16 → (CanReadOn shell.session (objects_of store.cat) → CanReadOn now.session (objects_of store.cat))
+        → RunsAs era shell now store store (line_of_bsa line) result
+    init_runs volume is set same before (Ok reply) table sound on within reads =
+        let set_init = subst (λ (l : BsaLine). fields_of fields ≡ after_line (line_of_bsa l) (fields_of shell.fields)) is set in
+        subst (λ (l : BsaLine). RunsLine disk moment (line_of_bsa l) era shell now store store reply) (sym is)
+        (call_runs disk moment era shell fields now store store (init_line volume) set_init same
+        (init_shell disk era shell now store before volume moment reply table sound on within (reads before.reads_on)) refl refl reply
+        (table, record { contents = refl; used = refl }))
+    init_runs volume is set same before (Err status) table sound on within reads = tt
+
+    pub begin_runs : line ≡ Begin → fields_of fields ≡ after_line (line_of_bsa line) (fields_of shell.fields) → KeepsFields (record shell { fields = fields }) now
+        → ServesShell disk era shell store → (result : Result Reply Status)
+        → IfOk result (IsCode (Begins (state_of shell.session) (state_of now.session))) → IsSound (state_of now.session)
+        → (CanReadOn shell.session (objects_of store.cat) → CanReadOn now.session (objects_of store.cat))
+        → RunsAs era shell now store store (line_of_bsa line) result
+    begin_runs is set kept before (Ok reply) table sound reads =
+        let set_begin = subst (λ (l : BsaLine). fields_of fields ≡ after_line (line_of_bsa l) (fields_of shell.fields)) is set in
+        subst (λ (l : BsaLine). RunsLine disk moment (line_of_bsa l) era shell now store store reply) (sym is)
+        (call_runs disk moment era shell fields now store store begin_line set_begin kept.fields
+        (begin_shell disk era (record shell { fields = fields }) now store (serves_fields disk era shell fields store before) kept reply table sound (reads before.reads_on)) refl refl reply
+        (table, record { contents = refl; used = refl }))
+    begin_runs is set kept before (Err status) table sound reads = tt
+
+  module _ (from to : EraView) (shell : Shell) (fields : Fields) (now : Shell) (old new : Store D) (line : BsaLine) where
+    pub end_runs : (vote : ℕ) → line ≡ End vote → fields_of fields ≡ after_line (line_of_bsa line) (fields_of shell.fields) → KeepsFields (record shell { fields = fields }) now
+        → ServesShell disk from shell old → (result : Result Reply Status)
+        → IfOk result (Votes (setting_of disk moment old) vote (stand_of disk (record shell { fields = fields }) old) (stand_of disk now new))
+        → OnOk result (ServesShell disk from (record shell { fields = fields }) old → ServesShell disk to now new) → capacity_of new.cat ≡ capacity_of old.cat
+        → RunsAs to shell now old new (line_of_bsa line) result
+    end_runs vote is set kept before (Ok reply) votes serves capacity =
+        let set_end = subst (λ (l : BsaLine). fields_of fields ≡ after_line (line_of_bsa l) (fields_of shell.fields)) is set in
+        subst (λ (l : BsaLine). RunsLine disk moment (line_of_bsa l) to shell now old new reply) (sym is)
+        (call_runs disk moment to shell fields now old new (end_line vote) set_end kept.fields (serves (serves_fields disk from shell fields old before)) capacity refl reply votes)
+    end_runs vote is set kept before (Err status) votes serves capacity = tt

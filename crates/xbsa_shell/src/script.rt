@@ -109,10 +109,13 @@ pub(crate) fn run_script<D: Disk, S: Source, K: Sink>(
     let mut shell = Shell::new(alloc);
     let mut line = 1;
     'script: loop {
-        if !take_line(alloc, &mut lines, &mut shell, store, era, source, out, line, moment)? {
-            break;
+        match take_line(
+            alloc, &mut lines, &mut shell, store, era, source, out, line, moment,
+        ) {
+            Ok(true) => line += 1,
+            Ok(false) => break,
+            Err(status) => return Err(status),
         }
-        line += 1;
     }
     shell.finish(store);
     Ok(())

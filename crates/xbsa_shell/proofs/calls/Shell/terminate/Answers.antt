@@ -8,8 +8,8 @@ use Rattle.xbsa_shell.proofs.calls.Shell.terminate.Goals as goal
 
 pub terminate-requires : goal.terminate-requires
 terminate-requires g c =
-    let era = c.requires.0 in
-    let before = c.requires.1 in
+    let era = c.requires.served.0 in
+    let before = c.requires.served.1 in
     record {
       sound = before.serves.sound;
       store = λ fine. before.serves.opened;
