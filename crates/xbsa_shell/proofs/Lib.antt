@@ -13,3 +13,5 @@ pub mod LineLemmas
 pub mod RunLemmas
 pub mod FaultLemmas
 pub mod ScriptLemmas
+pub mod EnterLemmas
+pub mod TopLemmas

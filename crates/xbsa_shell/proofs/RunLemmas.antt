@@ -8,7 +8,9 @@ use Rattle.script_lines.specs.Cutting.{CutsLine, LinesView, first_fault}
 use Rattle.script_lines.specs.Fault.{Finds}
 use Rattle.script_lines.specs.declared.cutting.LineFault.{LineFault}
 use Rattle.script_lines.specs.declared.cutting.LineFault.TheVariants.{Failed, TooLong, ScriptTooLong, OutOfMemory as NoMemoryForLines}
-use Rattle.bsa_lines.specs.Lines.{Line, bsa_line_of}
+use Rattle.std.specs.Option.{ok_or, option_map}
+use Rattle.std.specs.Prelude.{IfErr}
+use Rattle.bsa_lines.specs.Lines.{Line, bsa_line_of, keyword_line}
 use Rattle.bsa_transcripts.specs.Lines.{Setting, Stand, Goes, Reads, Transcribes}
 use Rattle.site_model.specs.declared.status.Status.{Status}
 use Rattle.site_model.specs.declared.status.Status.TheVariants.{Ok as Done, OutOfMemory, ReadFault, WriteFault, DiskFault, ScriptFault}
@@ -21,19 +23,19 @@ use Rattle.object_store.specs.declared.store.Store.{Store}
 use Rattle.bsa_transcripts.specs.declared.replies.Reply.{Reply}
 use Rattle.bsa_transcripts.specs.declared.replies.Reply.TheVariants.{Nothing}
 use Rattle.xbsa_shell.specs.Serving.{RunsLine, RunsText, ServesShell, setting_of, stand_of}
-use Rattle.xbsa_shell.specs.Statuses.{status_of_line, CutsCall}
+use Rattle.xbsa_shell.specs.Statuses.{status_of_line, CutsCall, IsOfRun}
 use Rattle.xbsa_shell.specs.declared.calls.Shell.{Shell}
 
 -- ---- what is printed
 
-printed_part : (tells : Bool) (whole before after : List ℕ) (P : List ℕ → Type 0) → (IsTrue tells → PrintsFront whole before after) → P []
+pub printed_part : (tells : Bool) (whole before after : List ℕ) (P : List ℕ → Type 0) → (IsTrue tells → PrintsFront whole before after) → P []
     → ((printed rest : List ℕ) → whole ≡ printed ++ rest → P printed) → HasPrinted tells P before after
 printed_part true whole before after P front none part =
-    let f = front tt in record { text = f.printed; is = part f.printed f.rest f.parts; taken = λ yes. f.taken }
-printed_part false whole before after P front none part = record { text = []; is = none; taken = λ no. absurd no }
+    let f = front refl in record { text = f.printed; is = part f.printed f.rest f.parts; taken = λ tell. f.taken }
+printed_part false whole before after P front none part = record { text = []; is = none; taken = λ (no : IsTrue false). cc no }
 
 pub printed_none : (tells : Bool) (before : List ℕ) (P : List ℕ → Type 0) → P [] → HasPrinted tells P before before
-printed_none tells before P none = record { text = []; is = none; taken = λ yes. sym (append-nil before) }
+printed_none tells before P none = record { text = []; is = none; taken = λ tell. sym (append-nil before) }
 
 -- ---- one line
 
@@ -221,7 +223,7 @@ pub printed_both : (tells : Bool) (P Q R : List ℕ → Type 0) (before between 
 printed_both tells P Q R before between after join a b = record {
   text = a.text ++ b.text;
   is = join a.text b.text a.is b.is;
-  taken = λ yes. b.taken yes ∙ ap (λ (t : List ℕ). t ++ b.text) (a.taken yes) ∙ append_assoc before a.text b.text;
+  taken = λ tell. b.taken tell ∙ ap (λ (t : List ℕ). t ++ b.text) (a.taken tell) ∙ append_assoc before a.text b.text;
 }
 
 -- ---- what a line says
@@ -248,3 +250,23 @@ text_empty disk moment to shell store read is serves = record {
   serves = serves;
   capacity = refl;
 }
+
+-- ---- what ends a run
+
+words_only : {T : Type 0} (o : Option T) (why : Why) → ok_or o Words ≡ Err why → why ≡ Words
+words_only None why is = let same : Words ≡ why = cc is in sym same
+words_only (Some value) why is = cc is
+
+refused_words : (bytes : List ℕ) (why : Why) → bsa_line_of bytes ≡ Err why → why ≡ Words
+unfolding bsa_line_of
+refused_words [] why is = cc is
+refused_words (c ∷ cs) why is = words_only (option_map (λ line. Some line) (keyword_line (c ∷ cs))) why is
+
+pub text_is_run : (line : ℕ) (bytes : List ℕ) (status : Status) → EndsText line (bsa_line_of bytes) status → IsOfRun status
+text_is_run line bytes OutOfMemory is = tt
+text_is_run line bytes (DiskFault disk) is = tt
+text_is_run line bytes (ScriptFault at why) is = subst (λ (w : Why). IsOfRun (ScriptFault at w)) (sym (refused_words bytes why is.1)) tt
+text_is_run line bytes status is = absurd is
+
+pub err_is_run : (result : Result Bool Status) (status : Status) → result ≡ Err status → IsOfRun status → IfErr result IsOfRun
+err_is_run result status is run = subst (λ (r : Result Bool Status). IfErr r IsOfRun) (sym is) run

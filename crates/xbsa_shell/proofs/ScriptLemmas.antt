@@ -90,7 +90,7 @@ module _ {D : Type 0} (disk : Ghosts D) where
         era_limit = omega arith;
         script_limit = omega (arith, begun);
         counted = omega arith;
-        taken = λ yes. ([], refl);
+        taken = λ tell. ([], refl);
         source_later = omega arith;
         out_later = omega arith;
       }
@@ -109,13 +109,13 @@ module _ {D : Type 0} (disk : Ghosts D) where
       era_limit = omega (arith, passes.few, keeps.era_limit, advances);
       script_limit = limit;
       counted = omega (arith, keeps.counted, advances);
-      taken = λ yes. front_again left0 left left_now (keeps.taken yes) (taken yes);
+      taken = λ tell. front_again left0 left left_now (keeps.taken tell) (taken tell);
       source_later = omega (arith, keeps.source_later, source_later);
       out_later = omega (arith, keeps.out_later, out_later);
     }
 
     pub taken_then : (left_now : List ℕ) → (IsTrue tells → TakesFront left left_now) → IsTrue tells → TakesFront left0 left_now
-    taken_then left_now taken yes = front_again left0 left left_now (keeps.taken yes) (taken yes)
+    taken_then left_now taken tell = front_again left0 left left_now (keeps.taken tell) (taken tell)
 
     module _ (moment : ℕ) (sink : Bool) (printed0 printed : List ℕ) (went : WentRun moment first store shell lines line sink left0 left printed0 printed) where
       abbrev Takes : LinesView → List ℕ → Store D → Shell → Result Bool Status → List ℕ → List ℕ → Type 0

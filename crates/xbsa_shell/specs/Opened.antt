@@ -12,7 +12,7 @@ use Rattle.session_machine.specs.States.{none}
 use Rattle.bsa_transcripts.specs.Lines.{Setting, Stand}
 use Rattle.site_model.specs.declared.status.Status.{Status}
 use Rattle.store_opening.specs.Disks.{files_of}
-use Rattle.store_opening.specs.Faults.{NamesAsWell}
+use Rattle.store_opening.specs.Faults.{IsRefusal, NamesAsWell}
 use Rattle.store_opening.specs.Opening.{ShowsStore, StoreRefuses}
 use Rattle.store_opening.specs.declared.faults.StoreFault.{StoreFault}
 use Rattle.xbsa_shell.specs.Statuses.{status_of_store}
@@ -55,8 +55,8 @@ module _ {D : Type 0} where
     pub reads : reads_on disk.bytes new.volumes.items ≡ reads_on disk.bytes old.volumes.items
     pub part : part_on disk.bytes new.volumes.items ≡ part_on disk.bytes old.volumes.items
 
--- it names the disk of this fault
-pub record NamesFault (fault : StoreFault) (status : Status) : Type 0 where
+-- this status is that of a fault, which names the same disk as another one; or of a failure
+pub record IsRefusedAs (fault : StoreFault) (status : Status) : Type 0 where
   pub found : StoreFault
   pub is : status ≡ status_of_store found
-  pub names : NamesAsWell found fault
+  pub names : IsRefusal found → NamesAsWell found fault

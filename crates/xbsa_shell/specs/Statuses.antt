@@ -53,6 +53,17 @@ CutsCall OutOfMemory = Unit {0}
 CutsCall (DiskFault disk) = Unit {0}
 CutsCall status = ⊥
 
+-- the statuses with which a run of a script ends early
+abbrev pub IsOfRun : Status → Type 0
+IsOfRun OutOfMemory = Unit {0}
+IsOfRun ReadFault = Unit {0}
+IsOfRun WriteFault = Unit {0}
+IsOfRun (DiskFault disk) = Unit {0}
+IsOfRun (ScriptFault line Words) = Unit {0}
+IsOfRun (ScriptFault line LineTooLong) = Unit {0}
+IsOfRun (ScriptFault line ScriptPasses) = Unit {0}
+IsOfRun status = ⊥
+
 -- the statuses with which a shell ends
 abbrev pub IsOfShell : Status → Type 0
 IsOfShell Done = Unit {0}
@@ -67,3 +78,17 @@ IsOfShell (ScriptFault line ScriptPasses) = Unit {0}
 IsOfShell NotFormatted = Unit {0}
 IsOfShell (BadRecord disk slot) = Unit {0}
 IsOfShell status = ⊥
+
+-- a status that ends a shell as a stop does
+abbrev pub CutsShort : Status → Type 0
+CutsShort OutOfMemory = Unit {0}
+CutsShort ReadFault = Unit {0}
+CutsShort WriteFault = Unit {0}
+CutsShort (DiskFault disk) = Unit {0}
+CutsShort status = ⊥
+
+-- a status that is decided by what the disks hold
+abbrev pub IsOfDisks : Status → Type 0
+IsOfDisks NotFormatted = Unit {0}
+IsOfDisks (BadRecord disk slot) = Unit {0}
+IsOfDisks status = ⊥

@@ -1,5 +1,5 @@
 //! A script of calls, line by line.
-ghost use Rattle.std.specs.Prelude.{◌≡◌, ◌⊎◌, ◌+◌, ◌*◌, ◌≤◌, ◌<◌, ◌^◌, ◌++◌, ℕ, List, Ok, Err, Some, None, true, IsTrue, IfOk, IfErr, OnOk};
+ghost use Rattle.std.specs.Prelude.{◌≡◌, ◌⊎◌, ◌+◌, ◌*◌, ◌≤◌, ◌<◌, ◌^◌, ◌++◌, ℕ, List, [], Ok, Err, Some, None, true, false, IsTrue, IfOk, IfErr, OnOk};
 ghost use Rattle.bsa_lines.specs.Lines.{bsa_line_of};
 ghost use Rattle.catalogue_journal.specs.Catalogues.{capacity_of};
 ghost use Rattle.object_store.specs.Endings.{PassesEras};
@@ -9,6 +9,7 @@ ghost use Rattle.session_machine.specs.States.{none};
 ghost use Rattle.site_disk.specs.Causes.{Rose};
 ghost use Rattle.xbsa_shell.specs.Running.{status_in, EndsText, HasPrinted, Runs, TakesLine};
 ghost use Rattle.xbsa_shell.specs.Serving.{first_stand, setting_of, stand_of, RunsText, Serves, ServesShell};
+ghost use Rattle.xbsa_shell.specs.Statuses.{IsOfRun};
 
 use crate::calls::Shell;
 use crate::printing::print_reply;
@@ -66,6 +67,7 @@ fn take_line<D: Disk, S: Source, K: Sink>(
     ensures script_limit { lines.new.begun ≤ 16777216 }
     ensures at_end { IsTrue S.is_modelled → result ≡ Ok false → S.left source.new ≡ [] }
     ensures taken { IsTrue S.is_modelled → TakesFront (S.left source.old) (S.left source.new) }
+    ensures answers { IfErr result IsOfRun }
     ensures era { PassesEras era.old era.new }
     ensures read_fault { result ≡ Err Status.ReadFault → Rose (S.faults source.old) (S.faults source.new) }
     ensures write_fault { result ≡ Err Status.WriteFault → Rose (K.faults out.old) (K.faults out.new) }
@@ -97,6 +99,7 @@ pub(crate) fn run_script<D: Disk, S: Source, K: Sink>(
         (first_stand D.Disk store.old) (status_in result)) (K.taken out.old) (K.taken out.new) }
     ensures at_end { IsTrue S.is_modelled → OnOk result (S.left source.new ≡ []) }
     ensures taken { IsTrue S.is_modelled → TakesFront (S.left source.old) (S.left source.new) }
+    ensures answers { IfErr result IsOfRun }
     ensures key { era.new.key ≡ era.old.key }
     ensures era_later { era.old.number ≤ era.new.number }
     ensures era { era.new.number ≤ era.old.number + 2 ^ 28 }
