@@ -198,14 +198,14 @@ module _ {D : Type 0} (disk : Ghosts D) where
         let RestsElsewhere : ℕ → Volume D → Type 0 = λ place volume. place ≢ at → IsIdle volume in
         let before : OfEach RestsElsewhere drops.between =
         gives_each disk.is_modelled disk.bytes _ was.volumes.items drops.between drops.returned RestsElsewhere (λ place a b gave rests other. gave.idle (rests other))
-            (λ place volume there. (serves.fit place volume there).1) in
+        (λ place volume there. (serves.fit place volume there).1) in
         let between : OfEach MayVolume drops.between =
         disks_still disk.is_modelled disk.bytes _ was.volumes.items drops.between drops.returned (λ (d : D). MayUse era (disk.ledger d)) serves.may.volumes in
         ended_session (sending draft descriptor) serves opened
         (one_becomes RestsElsewhere (λ place volume. IsIdle volume) Cancels at drops.between is.volumes.items drops.cancelled (λ a b gone rests. gone.idle)
-            (λ place volume other rests. rests other) before)
+        (λ place volume other rests. rests other) before)
         (one_becomes MayVolume MayVolume Cancels at drops.between is.volumes.items drops.cancelled
-            (λ a b gone may. subst (λ (d : D). MayUse era (disk.ledger d)) (sym gone.disk) may) (λ place volume other may. may) between)
+        (λ a b gone may. subst (λ (d : D). MayUse era (disk.ledger d)) (sym gone.disk) may) (λ place volume other may. may) between)
         holds
 
     pub terminate_serves : (at : ℕ) (old new : State) (code : BsaRc) → Terminates old new code → IsPlace at old → Serves disk era old was → (has_draft old ≡ false → is ≡ was)

@@ -19,7 +19,7 @@ use Rattle.site_model.specs.declared.disk_name.DiskName.TheVariants.{Cat, Spare,
 use Rattle.xbsa_shell.specs.Faults.{disk_in, faults_in, faults_or, HasFailed, NoneFalls}
 
 module _ {D : Type 0} (disk : Ghosts D) where
-  volume_faults : Option (VolumeOf D) → ℕ
+  abbrev volume_faults : Option (VolumeOf D) → ℕ
   volume_faults volume = faults_or disk (option_map (λ (v : VolumeOf D). disk_of v) volume)
 
   pub falls_none : (store : Store D) → NoneFalls disk store store
@@ -56,13 +56,13 @@ module _ {D : Type 0} (disk : Ghosts D) where
     one_falls kept Log = omega arith
     one_falls kept (Volume n) = elim (cases_eq n at) [
       | inl is ↦
-        let before : faults_in disk old (Volume n) ≡ (disk.ledger (disk_of one.was)).faults = ap volume_faults (ap (slice_get old.volumes.items) is ∙ was_there) in
-        let behind : faults_in disk new (Volume n) ≡ (disk.ledger (disk_of one.is)).faults = ap volume_faults (ap (slice_get new.volumes.items) is ∙ is_there) in
-        let le = kept one.by in
-        omega (arith, before, behind, le)
+          let before : faults_in disk old (Volume n) ≡ (disk.ledger (disk_of one.was)).faults = ap volume_faults (ap (slice_get old.volumes.items) is ∙ was_there) in
+          let behind : faults_in disk new (Volume n) ≡ (disk.ledger (disk_of one.is)).faults = ap volume_faults (ap (slice_get new.volumes.items) is ∙ is_there) in
+          let le = kept one.by in
+          omega (arith, before, behind, le)
       | inr other ↦
-        let e : faults_in disk new (Volume n) ≡ faults_in disk old (Volume n) = ap volume_faults (elsewhere n other) in
-        omega (arith, e)
+          let e : faults_in disk new (Volume n) ≡ faults_in disk old (Volume n) = ap volume_faults (elsewhere n other) in
+          omega (arith, e)
     ]
     one_falls kept (Chunk n) = omega arith
 

@@ -147,7 +147,7 @@ module _ {D : Type 0} (disk : Ghosts D) (shell : Shell) (session : Session) wher
   pub terminate_shell : (era : EraView) (was is : Store D) (code : BsaRc) → ServesShell disk era shell was → is.cat ≡ was.cat
       → Terminates (state_of shell.session) (state_of session) code → (has_draft (state_of shell.session) ≡ false → is ≡ was) → IsOpenStore is
       → (has_draft (state_of shell.session) ≡ true → (others : ℕ → List (List Run))
-          → HoldWith (places (objects_of was.cat) (added_in (state_of shell.session))) others was.volumes.items → HoldWith (places (objects_of is.cat) []) others is.volumes.items)
+      → HoldWith (places (objects_of was.cat) (added_in (state_of shell.session))) others was.volumes.items → HoldWith (places (objects_of is.cat) []) others is.volumes.items)
       → Drops disk.is_modelled disk.bytes (state_of shell.session) was.volumes.items is.volumes.items → ServesShell disk era now is
   terminate_shell era was is code before same table untouched opened holds drops =
       let leaves : (is_getting (state_of session) ≡ false) ⊎ (session ≡ shell.session) = inl (terminate_leaves (state_of shell.session) (state_of session) code table) in
@@ -162,7 +162,7 @@ module _ {D : Type 0} (disk : Ghosts D) (shell : Shell) (session : Session) wher
     pub voted_shell : (copies : Vec ℕ Global) (placed : List Placed) → EndsTxn vote capacity taken contents copies_of (state_of shell.session) (state_of session) (Ok copies)
         → IsSound (state_of session) → (is_broken (state_of session) ≡ false → IsOpenStore is) → AllGiveBack disk.is_modelled disk.bytes placed was.volumes.items is.volumes.items
         → ((others : ℕ → List (List Run)) → HoldWith (places (objects_of was.cat) (added_in (state_of shell.session))) others was.volumes.items
-            → HoldWith (places (objects_of is.cat) []) others is.volumes.items)
+        → HoldWith (places (objects_of is.cat) []) others is.volumes.items)
         → MayUse to (disk.ledger (cat_of is.cat)) → spare_of is.cat ≡ spare_of was.cat → ServesShell disk to now is
     voted_shell copies placed table sound opened gives holds may spare =
         let ends = vote_was_waiting vote capacity taken contents copies_of (state_of shell.session) (state_of session) copies table in

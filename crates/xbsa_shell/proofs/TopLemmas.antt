@@ -1,5 +1,5 @@
 -- How the shell ends, and what it has printed then.
-use Rattle.std.specs.Prelude.{IfErr, MatchResult}
+use Rattle.std.specs.Prelude.{IfErr, MatchResult, OnOk}
 use Rattle.std.proofs.Common.{◌≡◌, ◌⊎◌, ℕ, ◌+◌, ◌<◌, ◌≤◌, Bool, true, false, IsTrue, List, [], ◌∷◌, ◌++◌, length, Option, None, Some, Result, Ok, Err, inl, inr, refl, sym, ap, ◌∙◌, subst, arith, append_assoc}
 use Rattle.std.proofs.lemmas.List.{append-nil}
 use Rattle.onbar_grammar.specs.Script.{Raw}
@@ -19,19 +19,19 @@ use Rattle.xbsa_shell.specs.Opened.{HasOpened, IsRefusedAs, SaysWhy, opening_set
 use Rattle.xbsa_shell.specs.Printing.{PrintsFront}
 use Rattle.xbsa_shell.specs.Running.{EndsShell, HasPrinted, PrintsShell, PrintsShellPart, Runs, RunsSome, RunsWhole, good_lines, status_in}
 use Rattle.xbsa_shell.specs.Serving.{first_stand, setting_of}
-use Rattle.xbsa_shell.specs.Statuses.{status_of_store, CutsShort, IsOfDisks, IsOfRun, IsOfShell}
+use Rattle.xbsa_shell.specs.Statuses.{status_of_store, CutsShort, EndsEarly, IsOfDisks, IsOfRun}
 use Rattle.xbsa_shell.proofs.EnterLemmas.{setting_shown, stand_shown}
 use Rattle.xbsa_shell.proofs.RunLemmas.{printed_both, printed_none, printed_part}
 
 -- ---- statuses
 
-pub store_is_shell : (fault : StoreFault) → IsOfShell (status_of_store fault)
+pub store_is_shell : (fault : StoreFault) → EndsEarly (status_of_store fault)
 store_is_shell NoMemoryForStore = tt
 store_is_shell (StoreFails disk) = tt
 store_is_shell StoreHasNone = tt
 store_is_shell (StoreHasBad disk slot) = tt
 
-pub run_is_shell : (status : Status) → IsOfRun status → IsOfShell status
+pub run_is_shell : (status : Status) → IsOfRun status → EndsEarly status
 run_is_shell OutOfMemory is = tt
 run_is_shell ReadFault is = tt
 run_is_shell WriteFault is = tt
@@ -56,18 +56,19 @@ store_no_usage (StoreFails disk) n same = cc same
 store_no_usage StoreHasNone n same = cc same
 store_no_usage (StoreHasBad disk slot) n same = cc same
 
-pub shell_of : (done : Result (Unit {0}) Status) → IfErr done IsOfShell → IsOfShell (status_in done)
-shell_of (Ok value) is = tt
-shell_of (Err status) is = is
+pub shell_of : (done : Result (Unit {0}) Status) → IfErr done EndsEarly → (status_in done ≡ Done) ⊎ EndsEarly (status_in done)
+shell_of (Ok value) is = inl refl
+shell_of (Err status) is = inr is
 
 -- what ended a run that is told
 pub err_of : (done : Result (Unit {0}) Status) (status : Status) → (status ≡ Done → ⊥) → status_in done ≡ status → done ≡ Err status
 err_of (Ok value) status not is = absurd (not (sym is))
 err_of (Err other) status not is = ap Err is
 
-pub ok_of : (done : Result (Unit {0}) Status) → IfErr done IsOfShell → status_in done ≡ Done → IfErr done (λ status. status ≡ Done)
-ok_of (Ok value) shell is = tt
-ok_of (Err status) shell is = is
+-- what a run leaves that came to its end
+pub ok_of : (P : Type 0) (done : Result (Unit {0}) Status) → IfErr done EndsEarly → OnOk done P → status_in done ≡ Done → P
+ok_of P (Ok value) early is same = is
+ok_of P (Err status) early is same = let bad : EndsEarly Done = subst EndsEarly same early in absurd bad
 
 pub status_refused : (P : Status → Type 0) (done : Result (Unit {0}) Status) → MatchResult done (λ value. ⊥) P → P (status_in done)
 status_refused P (Ok value) is = absurd is
@@ -82,9 +83,9 @@ pub cuts : (status : Status) → (status ≡ OutOfMemory) ⊎ (status ≡ WriteF
 cuts status (inl is) = subst CutsShort (sym is) tt
 cuts status (inr is) = subst CutsShort (sym is) tt
 
-pub cuts_shell : (status : Status) → (status ≡ OutOfMemory) ⊎ (status ≡ WriteFault) → IsOfShell status
-cuts_shell status (inl is) = subst IsOfShell (sym is) tt
-cuts_shell status (inr is) = subst IsOfShell (sym is) tt
+pub cuts_shell : (status : Status) → (status ≡ OutOfMemory) ⊎ (status ≡ WriteFault) → EndsEarly status
+cuts_shell status (inl is) = subst EndsEarly (sym is) tt
+cuts_shell status (inr is) = subst EndsEarly (sym is) tt
 
 pub cuts_not_of_disks : (status : Status) → (status ≡ OutOfMemory) ⊎ (status ≡ WriteFault) → IsOfDisks status → ⊥
 cuts_not_of_disks status (inl is) refused = let bad : IsOfDisks OutOfMemory = subst IsOfDisks is refused in absurd bad

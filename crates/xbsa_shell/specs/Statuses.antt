@@ -9,7 +9,7 @@ use Rattle.session_machine.specs.declared.answers.Access.TheVariants.{Cat as Cat
 use Rattle.site_model.specs.declared.disk_name.DiskName.{DiskName}
 use Rattle.site_model.specs.declared.disk_name.DiskName.TheVariants.{Cat, Spare, Volume}
 use Rattle.site_model.specs.declared.status.Status.{Status}
-use Rattle.site_model.specs.declared.status.Status.TheVariants.{Ok as Done, OutOfMemory, ReadFault, WriteFault, DiskFault, Usage, ScriptFault, NotFormatted, BadRecord}
+use Rattle.site_model.specs.declared.status.Status.TheVariants.{OutOfMemory, ReadFault, WriteFault, DiskFault, Usage, ScriptFault, NotFormatted, BadRecord}
 use Rattle.store_opening.specs.declared.faults.StoreDisk.{StoreDisk}
 use Rattle.store_opening.specs.declared.faults.StoreDisk.TheVariants.{Cat as StoreCat, Spare as StoreSpare, Volume as StoreVolume}
 use Rattle.store_opening.specs.declared.faults.StoreFault.{StoreFault}
@@ -64,20 +64,19 @@ IsOfRun (ScriptFault line LineTooLong) = Unit {0}
 IsOfRun (ScriptFault line ScriptPasses) = Unit {0}
 IsOfRun status = ⊥
 
--- the statuses with which a shell ends
-abbrev pub IsOfShell : Status → Type 0
-IsOfShell Done = Unit {0}
-IsOfShell OutOfMemory = Unit {0}
-IsOfShell ReadFault = Unit {0}
-IsOfShell WriteFault = Unit {0}
-IsOfShell (DiskFault disk) = Unit {0}
-IsOfShell (Usage word) = Unit {0}
-IsOfShell (ScriptFault line Words) = Unit {0}
-IsOfShell (ScriptFault line LineTooLong) = Unit {0}
-IsOfShell (ScriptFault line ScriptPasses) = Unit {0}
-IsOfShell NotFormatted = Unit {0}
-IsOfShell (BadRecord disk slot) = Unit {0}
-IsOfShell status = ⊥
+-- the statuses with which a shell ends early
+abbrev pub EndsEarly : Status → Type 0
+EndsEarly OutOfMemory = Unit {0}
+EndsEarly ReadFault = Unit {0}
+EndsEarly WriteFault = Unit {0}
+EndsEarly (DiskFault disk) = Unit {0}
+EndsEarly (Usage word) = Unit {0}
+EndsEarly (ScriptFault line Words) = Unit {0}
+EndsEarly (ScriptFault line LineTooLong) = Unit {0}
+EndsEarly (ScriptFault line ScriptPasses) = Unit {0}
+EndsEarly NotFormatted = Unit {0}
+EndsEarly (BadRecord disk slot) = Unit {0}
+EndsEarly status = ⊥
 
 -- a status that ends a shell as a stop does
 abbrev pub CutsShort : Status → Type 0

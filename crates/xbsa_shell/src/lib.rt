@@ -6,8 +6,6 @@ mod printing;
 mod script;
 mod shell;
 mod statuses;
-#[cfg(test)]
-mod tests;
 mod volumes;
 
 pub use shell::xbsa_shell;

@@ -13,7 +13,7 @@ ghost use Rattle.xbsa_shell.specs.Opened.{opening_setting, opening_stand, HasOpe
 ghost use Rattle.xbsa_shell.specs.Printing.{PrintsFront};
 ghost use Rattle.xbsa_shell.specs.Running.{status_in, EndsShell, HasPrinted, Runs};
 ghost use Rattle.xbsa_shell.specs.Serving.{Serves};
-ghost use Rattle.xbsa_shell.specs.Statuses.{status_of_store, CutsShort, IsOfDisks, IsOfShell};
+ghost use Rattle.xbsa_shell.specs.Statuses.{status_of_store, CutsShort, EndsEarly, IsOfDisks};
 
 use crate::printing::print_last;
 use crate::script::run_script;
@@ -66,7 +66,7 @@ fn run<D: Disk, S: Source, K: Sink>(
     ensures cause { IsTrue D.is_modelled → IfErr result (λ status. IsOfDisks status → SaysWhy D.Disk store.old status) }
     ensures usage { 0 < length words.now → (result ≡ Err (Status.Usage 1)) × (store.new ≡ store.old) × (script.new ≡ script.old) × (out.new ≡ out.old) }
     ensures usage_only { (n : ℕ) → result ≡ Err (Status.Usage n) → (n ≡ 1) × (0 < length words.now) }
-    ensures answers { IfErr result IsOfShell }
+    ensures answers { IfErr result EndsEarly }
     ensures quiet { IfErr result (λ status. IsOfDisks status → out.new ≡ out.old) }
     ensures at_end { IsTrue S.is_modelled → OnOk result (S.left script.new ≡ []) }
     ensures taken { IsTrue S.is_modelled → TakesFront (S.left script.old) (S.left script.new) }
@@ -81,10 +81,10 @@ fn run<D: Disk, S: Source, K: Sink>(
     if !words.is_empty() {
         return Err(Status::Usage(1));
     }
-    if let Err(fault) = enter(alloc, store, era) {
-        return Err(status_of_store(fault));
+    match enter(alloc, store, era) {
+        Ok(()) => run_script(alloc, store, era, script, out, moment),
+        Err(fault) => Err(status_of_store(fault)),
     }
-    run_script(alloc, store, era, script, out, moment)
 }
 
 fn status_of(done: Result<(), Status>) -> Status
@@ -132,7 +132,7 @@ pub fn xbsa_shell<D: Disk, S: Source, K: Sink>(
     ensures usage_only { (n : ℕ) → result ≡ Status.Usage n → (n ≡ 1) × (0 < length words.now) }
 
     // No other status comes.
-    ensures answers { IsOfShell result }
+    ensures answers { (result ≡ Status.Ok) ⊎ EndsEarly result }
     ensures read_fault { result ≡ Status.ReadFault → Rose (S.faults script.old) (S.faults script.new) }
     ensures write_fault { result ≡ Status.WriteFault → Rose (K.faults out.old) (K.faults out.new) }
 

@@ -60,7 +60,7 @@ returns-in_err-print_reply-clause-takes g c tells =
     let is : c.from_residual-in_err-print_reply.result ≡ Err status = p.1 ∙ ap Err p.2 in
     let whole = reply_text c.in_ok-reply.reply in
     let advances = advances_by setting c.args.line c.args.lines.now c.next.new.self bytes left stand then c.line.result.now whole
-        (c.in-Ok-true.ensures.line tells (ap Ok c.in-Ok-true.field-0-test)) c.line.ensures.line c.in_ok-reply.ensures.runs.reads in
+    (c.in-Ok-true.ensures.line tells (ap Ok c.in-Ok-true.field-0-test)) c.line.ensures.line c.in_ok-reply.ensures.runs.reads in
     subst (λ (r : Result Bool Status). HasPrinted tell (TakesLine setting c.args.line begun now (raw_lines bytes) (raw_lines left) stand then r) printed behind) (sym is)
     (breaks_line setting c.args.line begun now (raw_lines left) stand then (raw_lines bytes) status c.in_err-print_reply.ensures.cut whole printed behind advances tell
     c.in_err-print_reply.ensures.front)

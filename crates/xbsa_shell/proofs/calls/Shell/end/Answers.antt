@@ -33,7 +33,7 @@ returns-in-Err-clause-votes g c moment =
     told_as (Votes (setting_of g.D.Disk moment was) c.args.vote (stand_of g.D.Disk c.args.self.now was) (stand_of g.D.Disk now c.end_txn.new.store)) c.in-Err.code c.told.result
     c.told.ensures.told (λ uncut.
     let nothing = vote_changes_nothing c.args.vote (capacity_of was.cat) (used_of was.cat) (contents_in was.cat) _ (state_of c.args.self.now.session) (state_of c.end_txn.new.self)
-        c.in-Err.code e.table uncut in
+    c.in-Err.code e.table uncut in
     let same = e.refused_store nothing in
     record {
       told = record { result = Err c.in-Err.code; answers = e.table; is = refl };

@@ -10,8 +10,8 @@ use Rattle.xbsa_shell.proofs.calls.Shell.init.Goals as goal
 pub returns-clause-reads : goal.returns-clause-reads
 returns-clause-reads c objects before =
     let reads = reads_then c.args.self.now.session c.init-code.new.self objects
-        (init_leaves c.args.volume c.args.moment (state_of c.args.self.now.session) (state_of c.init-code.new.self) c.init-code.result c.init-code.ensures.table)
-        c.init-code.ensures.refused before in
+    (init_leaves c.args.volume c.args.moment (state_of c.args.self.now.session) (state_of c.init-code.new.self) c.init-code.result c.init-code.ensures.table)
+    c.init-code.ensures.refused before in
     elim c.if-eq.branch [
       | then-eq w ↦ subst (λ (s : Shell). CanReadOn s.session objects) (sym w.self-is) reads
       | else-eq w ↦ subst (λ (s : Shell). CanReadOn s.session objects) (sym w.self-is) reads
