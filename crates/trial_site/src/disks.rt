@@ -102,7 +102,7 @@ fn chunks_of(
 }
 
 /// A site over disks of these bytes.
-pub(crate) fn site_of(
+pub fn site_of(
     alloc: Global,
     era: &Era,
     bytes: &Bytes,
@@ -159,7 +159,7 @@ fn bytes_left(
 }
 
 /// What a command leaves: the bytes of its disks, and whether a call of one came, or failed by plan.
-pub(crate) fn leave(
+pub fn leave(
     alloc: Global,
     site: Site<MemDisk>,
     era: &Era,

@@ -11,5 +11,5 @@ mod steps;
 
 pub use bytes::Bytes;
 pub use commands::{Ended, begins, command, end_of, extend, run};
-pub use disks::{MOMENT, Plan, Trouble};
+pub use disks::{MOMENT, Plan, Trouble, leave, site_of};
 pub use steps::{INIT, NOTHING, Step, WRITTEN, formatted, go_on, run_steps};

@@ -1,0 +1,17 @@
+pub mod ListLemmas
+pub mod MatchLemmas
+pub mod ServingLemmas
+pub mod StepLemmas
+pub mod SendLemmas
+pub mod BackLemmas
+pub mod LeadLemmas
+pub mod StoreLemmas
+pub mod FetchLemmas
+pub mod EndLemmas
+pub mod ShellLemmas
+pub mod LineLemmas
+pub mod RunLemmas
+pub mod FaultLemmas
+pub mod ScriptLemmas
+pub mod EnterLemmas
+pub mod TopLemmas
