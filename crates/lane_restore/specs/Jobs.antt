@@ -1,5 +1,5 @@
 -- What contracts see of a lane's job.
-use Rattle.std.specs.Prelude.{◌≡◌, ℕ, suc, ◌<◌, ◌≤◌, ◌^◌, ◌==◌, List, [], ◌∷◌, if◌then◌else◌, Option, None, Some, IsSome, slice_get}
+use Rattle.std.specs.Prelude.{◌≡◌, ◌≢◌, ℕ, ◌<◌, ◌≤◌, ◌^◌, ◌==◌, List, [], ◌∷◌, length, if◌then◌else◌, Option, None, Some, IsSome, slice_index_or}
 use Rattle.std.specs.List.{AllByRecursion}
 use Rattle.site_disk.specs.Causes.{Rose}
 use Rattle.backup_lines.specs.declared.lanes.Chain.{Chain}
@@ -49,6 +49,15 @@ IsReplaying restore chain (Replay number other upto part) = (number ≡ restore)
 abbrev pub image_of : ℕ → List ImageJob → Option ImageJob
 image_of level [] = None
 image_of level (image ∷ images) = if image.head.level == level then Some image else image_of level images
+
+-- none is of a level; or one is, and stands first at this place
+abbrev pub HasNone : ℕ → List ImageJob → Type 0
+HasNone level images = (k : ℕ) (d : ImageJob) → k < length images → (slice_index_or images k d).head.level ≢ level
+
+abbrev pub IsFirstAt : ℕ → List ImageJob → ℕ → Type 0
+IsFirstAt level images place =
+    (place < length images) × ((d : ImageJob) → (slice_index_or images place d).head.level ≡ level)
+    × ((k : ℕ) (d : ImageJob) → k < place → (slice_index_or images k d).head.level ≢ level)
 
 -- there is one for each archive of the chain that isn't merged whole
 abbrev pub HasImages : Chain → LaneState → List ImageJob → Type 0

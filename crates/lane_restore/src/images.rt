@@ -1,7 +1,7 @@
 //! Which image is merged next.
-ghost use Rattle.std.specs.Prelude.{◌≡◌, ◌<◌, length, slice_get, IfSome, MatchOption, None, Some};
+ghost use Rattle.std.specs.Prelude.{◌≡◌, MatchOption, None, Some};
 ghost use Rattle.lane_restore.specs.Images.{entries_in, step_len};
-ghost use Rattle.lane_restore.specs.Jobs.{amid, amid_of, image_of};
+ghost use Rattle.lane_restore.specs.Jobs.{HasNone, IsFirstAt, amid, amid_of};
 
 use crate::job::ImageJob;
 use backup_lines::LaneState;
@@ -22,8 +22,7 @@ pub(crate) fn amid_of(state: &LaneState) -> Option<(u8, u32)>
 
 /// Where the first image of a level stands among those of a job.
 pub(crate) fn place_of(images: &[ImageJob], level: u8) -> Option<usize>
-    ensures found { MatchOption result (image_of level images.now ≡ None) (λ place. slice_get images.now place ≡ image_of level images.now) }
-    ensures within { IfSome result (λ place. place < length images.now) }
+    ensures { MatchOption result (HasNone level images.now) (IsFirstAt level images.now) }
 {
     images.iter().position(|image| image.head.level == level)
 }

@@ -1,15 +1,15 @@
 //! The marks of a lane among its images.
-ghost use Rattle.std.specs.Prelude.{◌≡◌, ℕ, ◌+◌, ◌<◌, ◌≤◌, IsTrue, IfErr, OnOk};
+ghost use Rattle.std.specs.Prelude.{◌≡◌, ℕ, ◌+◌, ◌<◌, ◌≤◌, IsTrue, IfErr, MatchOption, OnOk};
 ghost use Rattle.site_disk.specs.Images.{IsSynced, Leaves, OnlyAfter};
 ghost use Rattle.site_disk.specs.Ledger.{MayUse, Uses};
 ghost use Rattle.site_disk.specs.Seen.{seen};
 ghost use Rattle.backup_lines.specs.declared.lanes.LaneState.{LaneState as StateView};
-ghost use Rattle.lane_mark.specs.Layout.{FitsChain, FitsRestore, FitsState};
+ghost use Rattle.lane_mark.specs.Layout.{FitsChain, FitsState};
 ghost use Rattle.space_lane.specs.Chunks.{SamePages};
 ghost use Rattle.space_lane.specs.Lanes.{Agrees, IsMade, IsOpen, Stands, TellsOf, count_of, disk_of, space_of, state_of};
 ghost use Rattle.space_lane.specs.Stops.{MaySet};
 ghost use Rattle.lane_restore.specs.Images.{step_len};
-ghost use Rattle.lane_restore.specs.Jobs.{FailsBy, IsOf};
+ghost use Rattle.lane_restore.specs.Jobs.{FailsBy};
 ghost use Rattle.lane_restore.specs.Steps.{behind_image, behind_step, begun};
 
 use crate::images::entries_in;
@@ -84,18 +84,30 @@ pub(crate) fn mark<D: Disk>(lane: &mut Lane<D>, era: &Era, state: &LaneState) ->
     }
 }
 
+// Where the work on an emptied lane begins.
+fn first_state(state: &LaneState, chain: &Chain) -> Option<LaneState>
+    ensures { MatchOption result (begun state.now chain.now ≡ state.now) (λ first. first ≡ begun state.now chain.now) }
+{
+    match *state {
+        LaneState::Blank { restore } => Some(LaneState::Image {
+            restore,
+            chain: *chain,
+            image: 0,
+            entries: 0,
+        }),
+        LaneState::At { .. } | LaneState::Image { .. } | LaneState::Replay { .. } => None,
+    }
+}
+
 /// Marks an emptied lane as amid the first image, before anything of that is written. Any other stays as it is.
 pub(crate) fn mark_begun<D: Disk>(
     lane: &mut Lane<D>,
     era: &Era,
-    restore: u64,
     chain: &Chain,
 ) -> Result<(), LaneEnd>
     requires era { MayUse era.now (D.ledger (disk_of lane.old)) }
     requires opened { IsOpen lane.old }
-    requires restore { FitsRestore restore }
     requires chain { FitsChain chain.now }
-    requires state { IsOf restore chain.now (state_of lane.old) }
     ensures made { IsMade lane.new }
     ensures space { space_of lane.new ≡ space_of lane.old }
     ensures opened { OnOk result (IsOpen lane.new) }
@@ -114,14 +126,8 @@ pub(crate) fn mark_begun<D: Disk>(
         → (D.ledger (disk_of lane.new)).written ≤ (D.ledger (disk_of lane.old)).written + 259 }
     ensures failed { IfErr result (FailsBy (D.ledger (disk_of lane.old)).faults (D.ledger (disk_of lane.new)).faults) }
 {
-    if !matches!(lane.state(), LaneState::Blank { .. }) {
-        return Ok(());
+    match first_state(lane.state(), chain) {
+        Some(state) => mark(lane, era, &state),
+        None => Ok(()),
     }
-    let state = LaneState::Image {
-        restore,
-        chain: *chain,
-        image: 0,
-        entries: 0,
-    };
-    mark(lane, era, &state)
 }

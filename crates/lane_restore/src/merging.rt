@@ -1,5 +1,5 @@
 //! The entries of an image, merged into the pages of its lane.
-ghost use Rattle.std.specs.Prelude.{◌≡◌, ℕ, ◌+◌, ◌*◌, ◌≤◌, List, [], true, length, IsTrue, IfErr, IfOk, IsErrOf, OnOk};
+ghost use Rattle.std.specs.Prelude.{◌≡◌, ℕ, ◌+◌, ◌*◌, ◌≤◌, List, [], true, length, IsTrue, IfErr, IfNone, IfOk, IfSome, IsErrOf, OnOk};
 ghost use Rattle.site_disk.specs.Bytes.{Same, Torn};
 ghost use Rattle.site_disk.specs.Images.{Leaves, Unchanged};
 ghost use Rattle.site_disk.specs.Ledger.{MayUse, Uses};
@@ -8,7 +8,7 @@ ghost use Rattle.before_images.specs.Saved.{place_of};
 ghost use Rattle.backup_lines.specs.declared.lanes.LaneState.{LaneState as StateView};
 ghost use Rattle.lane_ways.specs.Pictures.{pages_at};
 ghost use Rattle.level_archive.specs.Image.{Entry};
-ghost use Rattle.level_archive.specs.Reading.{HasEntry, HasRead};
+ghost use Rattle.level_archive.specs.Reading.{Gives, HasEntry, HasRead};
 ghost use Rattle.space_lane.specs.Lanes.{Agrees, count_of, disk_of as chunk_of, space_of, with_disk as with_chunk};
 ghost use Rattle.object_volume.specs.Cursors.{StandsIn, offset_of};
 ghost use Rattle.object_volume.specs.Volumes.{disk_of, with_disk};
@@ -23,6 +23,19 @@ use level_archive::ImageReader;
 use object_volume::{Cursor, Volume};
 use site_disk::{Disk, Era};
 use space_lane::Lane;
+
+/// The page whose block this is, where a reader that was fed the head takes it as the next one.
+fn next_page(reader: &mut ImageReader, block: &[u8; BLOCK_LEN]) -> Option<u32>
+    requires { reader.old.is_begun ≡ true }
+    ensures given { IfSome result (λ number. Gives reader.old block.now number reader.new) }
+    ensures none { IfNone result ((number : ℕ) → HasEntry reader.old.head reader.old.pages reader.old.from block.now number → ⊥) }
+{
+    match reader.feed(block) {
+        Ok(Some((page, _))) => Some(page),
+        Ok(None) => None,
+        Err(_) => None,
+    }
+}
 
 /// Reads the next block of an image, and writes the page that it has.
 fn merge_entry<D: Disk>(
@@ -77,10 +90,10 @@ fn merge_entry<D: Disk>(
     if !is_whole {
         return Err(unsound);
     }
-    let Ok(Some((page, bytes))) = reader.feed(&block) else {
+    let Some(page) = next_page(reader, &block) else {
         return Err(unsound);
     };
-    match lane.put_page(era, page, bytes) {
+    match lane.put_page(era, page, &block) {
         Ok(()) => Ok(()),
         Err(_) => Err(LaneEnd::ChunkFailed),
     }
@@ -130,7 +143,7 @@ fn merge_entries<D: Disk>(
     ensures ledger { Uses era.now (4096 * count) 0 (D.ledger (disk_of volume.old)) (D.ledger (disk_of volume.new)) }
 {
     let mut cursor = Cursor::at(4096 * (u64::from(entries) + 1));
-    for _ in 0..count {
+    for _done in 0..count {
         merge_entry(lane, volume, era, image, reader, &mut cursor)?;
     }
     Ok(())

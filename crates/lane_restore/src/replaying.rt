@@ -68,17 +68,15 @@ pub fn step_replay<D: Disk>(job: &mut LaneJob<D>, era: &Era) -> bool
     ensures bound { IsTrue D.is_modelled → (site count : ℕ) (state : StateView) → Agrees site count state (D.bytes (disk_of job.old.lane)) job.old.lane
         → (D.ledger (disk_of job.new.lane)).written ≤ (D.ledger (disk_of job.old.lane)).written + 40 * 4096 }
 {
-    match job.lane.advance_one(era, job.to, &job.changes) {
-        Ok(true) => true,
-        Ok(false) => {
-            job.ended = Some(LaneEnd::Done);
-            false
-        }
-        Err(_) => {
-            job.ended = Some(LaneEnd::ChunkFailed);
-            false
-        }
+    let Ok(is_short) = job.lane.advance_one(era, job.to, &job.changes) else {
+        job.ended = Some(LaneEnd::ChunkFailed);
+        return false;
+    };
+    if is_short {
+        return true;
     }
+    job.ended = Some(LaneEnd::Done);
+    false
 }
 
 /// The lane stands at a position with all commits in effect there, and is no restore's any more.

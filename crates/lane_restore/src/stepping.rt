@@ -79,7 +79,7 @@ fn step<D: Disk>(
     ensures volume_crash { Leaves era.now.number Same (D.image (disk_of volume.old)) (D.image (disk_of volume.new)) }
     ensures ledger { Uses era.now (4096 * blocks_read image.now.size entries) 0 (D.ledger (disk_of volume.old)) (D.ledger (disk_of volume.new)) }
 {
-    mark_begun(lane, era, restore, chain)?;
+    mark_begun(lane, era, chain)?;
     let merged = merge(lane, volume, era, image, pages, entries)?;
     mark(lane, era, &behind_step(restore, chain, image, merged))
 }

@@ -1,0 +1,4 @@
+pub mod ImageLemmas
+pub mod PageLemmas
+pub mod LoopLemmas
+pub mod StepLemmas
