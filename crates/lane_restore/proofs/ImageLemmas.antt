@@ -1,5 +1,5 @@
 -- The blocks of an image, as they stand on a volume.
-use Rattle.std.proofs.Common.{◌≡◌, ℕ, zero, suc, ◌+◌, ◌-◌, ◌*◌, ◌/◌, ◌^◌, ◌<◌, ◌≤◌, min, List, [], ◌∷◌, ◌++◌, length, take, drop, map, refl, arith, ap, sym, subst, ◌∙◌, ⊎_elim, append_assoc, length-append, length-take, length-drop}
+use Rattle.std.proofs.Common.{◌≡◌, ℕ, zero, suc, ◌+◌, ◌-◌, ◌*◌, ◌<◌, ◌≤◌, List, [], ◌∷◌, ◌++◌, length, take, drop, map, refl, arith, ap, sym, subst, ◌∙◌, ⊎_elim, append_assoc, length-append, length-take, length-drop}
 use Rattle.std.specs.List.{AllByRecursion, flat_map}
 use Rattle.std.proofs.lemmas.Bool.{cases_lt}
 use Rattle.std.proofs.lemmas.List.{length-map, take-append-drop, take_at, drop_at, map-append}
@@ -8,11 +8,11 @@ use Rattle.object_volume.specs.ObjectsLaws.{bytes_at-append, bytes_at-cut, lengt
 use Rattle.block_chain.specs.Blocks.{blocks_of_runs}
 use Rattle.level_archive.specs.declared.head.ImageHead.{ImageHead}
 use Rattle.level_archive.specs.BlockLaws.{IsBlock, block_stands, length-blocks, length-entry_bytes, length-head_bytes}
-use Rattle.level_archive.specs.Image.{Entry, IsImageSize, entry_bytes, head_bytes, image_blocks}
-use Rattle.level_archive.specs.Reading.{HasEntry, MayFollow, MayStand, number_behind}
+use Rattle.level_archive.specs.Image.{Entry, entry_bytes, head_bytes, image_blocks}
+use Rattle.level_archive.specs.Reading.{MayFollow, MayStand, number_behind}
 use Rattle.level_archive.specs.ReadingLaws.{MayFollow-behind, number_behind-more}
 use Rattle.lane_restore.specs.declared.job.ImageJob.{ImageJob}
-use Rattle.lane_restore.specs.Images.{AreEntries, HasHead, HasImage, IsEntry, IsTaken, TakesBlock, TakesBlocks, block_from, entries_in, entry_place, step_len}
+use Rattle.lane_restore.specs.Images.{AreEntries, HasImage, IsEntry, TakesBlock, TakesBlocks, block_from, entry_place}
 
 -- a part of what places read as
 
@@ -186,7 +186,7 @@ entries_in_front image pages entry (suc n) [] bytes are = tt
 entries_in_front image pages entry (suc n) (e ∷ es) bytes are = (are.0, entries_in_front image pages (entry + 1) n es bytes are.1)
 
 -- entries are at most as many as the pages
-few_follow : (head : ImageHead) (pages from : ℕ) (es : List Entry) → from ≤ pages → MayFollow head pages from es → from + length es ≤ pages
+pub few_follow : (head : ImageHead) (pages from : ℕ) (es : List Entry) → from ≤ pages → MayFollow head pages from es → from + length es ≤ pages
 few_follow head pages from [] le follow = omega (arith, le)
 few_follow head pages from (e ∷ es) le follow =
     omega (arith, follow.0.ascending, few_follow head pages (e.number + 1) es (omega (arith, follow.0.within)) follow.1)

@@ -2,3 +2,4 @@ pub mod ImageLemmas
 pub mod PageLemmas
 pub mod LoopLemmas
 pub mod StepLemmas
+pub mod NextLemmas

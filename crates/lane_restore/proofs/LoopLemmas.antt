@@ -1,19 +1,17 @@
 -- Entries merged one after another.
-use Rattle.std.specs.Prelude.{Result, Ok, Err, OnOk, is_err}
-use Rattle.std.proofs.Common.{◌≡◌, ℕ, zero, suc, ◌+◌, ◌-◌, ◌*◌, ◌<◌, ◌≤◌, List, [], ◌∷◌, ◌++◌, length, take, drop, Bool, true, false, IsTrue, arith, ap, sym, subst, ◌∙◌, refl}
+use Rattle.std.specs.Prelude.{Result, Err}
+use Rattle.std.proofs.Common.{◌≡◌, ℕ, zero, suc, ◌+◌, ◌-◌, ◌*◌, ◌<◌, ◌≤◌, List, [], ◌∷◌, ◌++◌, length, take, drop, true, IsTrue, arith, ap, sym, subst, ◌∙◌}
 use Rattle.site_disk.specs.Images.{Leaves, Unchanged}
 use Rattle.site_disk.specs.ImagesLaws.{goes_on}
 use Rattle.site_disk.specs.Bytes.{Torn, written}
-use Rattle.site_disk.specs.CallsLaws.{unchanged_again, uses_again, uses_both}
 use Rattle.site_disk.specs.Ledger.{EraView, Uses}
 use Rattle.site_disk.specs.declared.disk.Disk.{Ghosts}
 use Rattle.log_history.specs.Effects.{Page}
 use Rattle.before_images.specs.Saved.{place_of}
 use Rattle.backup_lines.specs.declared.lanes.LaneState.{LaneState}
 use Rattle.lane_ways.specs.Pictures.{pages_at}
-use Rattle.level_archive.specs.declared.head.ImageHead.{ImageHead}
 use Rattle.level_archive.specs.Image.{Entry, entry_bytes}
-use Rattle.level_archive.specs.Reading.{HasEntry, Reading, with_entry as with_given}
+use Rattle.level_archive.specs.Reading.{HasEntry, Reading}
 use Rattle.space_lane.specs.declared.lane.Lane.{Lane}
 use Rattle.space_lane.specs.Lanes.{Agrees, count_of, disk_of as chunk_of, space_of, with_disk as with_chunk}
 use Rattle.object_volume.specs.declared.reading.Cursor.{Cursor}

@@ -1,8 +1,7 @@
 -- Pages of a chunk while entries are merged into them.
-use Rattle.std.proofs.Common.{◌≡◌, ℕ, zero, suc, ◌+◌, ◌*◌, ◌<◌, ◌≤◌, List, [], ◌∷◌, ◌++◌, length, take, drop, get_or, fold, Bool, true, false, refl, arith, ap, sym, subst, ◌∙◌, ⊎_elim}
+use Rattle.std.proofs.Common.{◌≡◌, ℕ, zero, suc, ◌+◌, ◌<◌, ◌≤◌, List, [], ◌∷◌, ◌++◌, length, take, drop, get_or, fold, Bool, true, false, refl, arith, ap, sym, subst, ◌∙◌, ⊎_elim}
 use Rattle.std.specs.Prelude.{◌⊎◌, ◌==◌, if◌then◌else◌}
 use mathlib.Core.Logic.{inl, inr}
-use Rattle.std.specs.List.{AllByRecursion}
 use Rattle.std.proofs.lemmas.Bool.{cases_lt}
 use Rattle.std.proofs.lemmas.Bool.Decides.{nat_tests}
 use Rattle.std.proofs.lemmas.List.{take_more, drop_more, take_all}
@@ -17,10 +16,10 @@ use Rattle.lane_ways.specs.Pictures.{pages_at}
 use Rattle.space_lane.specs.Chunks.{IsPage, page_at}
 use Rattle.level_archive.specs.declared.head.ImageHead.{ImageHead}
 use Rattle.level_archive.specs.Image.{Entry, entry_bytes}
-use Rattle.level_archive.specs.Reading.{HasEntry, MayStand, Reading}
+use Rattle.level_archive.specs.Reading.{HasEntry, Reading}
 use Rattle.level_archive.proofs.PageLemmas.{one_number}
 use Rattle.lane_restore.specs.Images.{IsEntry}
-use Rattle.lane_restore.specs.Merging.{ArePages, IsApartFrom, LieApart, WritesOnly, with_entries, with_entry}
+use Rattle.lane_restore.specs.Merging.{ArePages, LieApart, WritesOnly, with_entries, with_entry}
 
 -- a whole block of an entry is a page of its space with its number
 pub is_page : (head : ImageHead) (pages from space number : ℕ) (block : List ℕ) → head.space ≡ space → length block ≡ 4096 → HasEntry head pages from block number
@@ -62,7 +61,7 @@ with_one-same number page e is = by (e.number == number) (grind (arith, nat_test
     by true is = refl
     by false is = absurd (let no : ⊥ = cc in no)
 
-with_one-other : (number : ℕ) (page : Page) (e : Entry) → (e.number ≡ number → ⊥) → with_entry number page e ≡ page
+pub with_one-other : (number : ℕ) (page : Page) (e : Entry) → (e.number ≡ number → ⊥) → with_entry number page e ≡ page
 with_one-other number page e isnt = by (e.number == number) (grind (arith, nat_tests, isnt))
   where
     by : (b : Bool) → b ≡ false → (if b then e.page else page) ≡ page

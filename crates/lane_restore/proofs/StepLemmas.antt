@@ -1,16 +1,16 @@
 -- What a chunk shows while a step goes on.
-use Rattle.std.specs.Prelude.{◌⊎◌, ◌==◌, if◌then◌else◌, Option, None, Some}
-use Rattle.std.proofs.Common.{◌≡◌, ℕ, zero, suc, ◌+◌, ◌-◌, ◌*◌, ◌/◌, ◌<◌, ◌≤◌, min, nat_lt, nat_le, List, [], ◌∷◌, ◌++◌, length, take, drop, get_or, fold, Bool, true, false, refl, arith, ap, sym, subst, ◌∙◌, ⊎_elim, length-take, length-drop}
+use Rattle.std.specs.Prelude.{◌⊎◌, if◌then◌else◌, Option, Some}
+use Rattle.std.proofs.Common.{◌≡◌, ℕ, zero, suc, ◌+◌, ◌*◌, ◌/◌, ◌^◌, ◌<◌, ◌≤◌, lit<, min, nat_lt, nat_le, List, [], ◌∷◌, ◌++◌, length, take, drop, get_or, fold, Bool, true, false, refl, arith, ap, sym, subst, ◌∙◌, ⊎_elim, length-take, length-drop}
 use mathlib.Core.Logic.{inl, inr}
-use Rattle.std.specs.List.{AllByRecursion}
 use Rattle.std.proofs.lemmas.Bool.{cases_lt}
 use Rattle.std.proofs.lemmas.Bool.Decides.{nat_tests}
 use Rattle.std.proofs.lemmas.List.{take_more, take_all}
 use Rattle.std.proofs.lemmas.List.Sums.{fold-append}
+use Rattle.std.proofs.lemmas.Option.{same_Some}
 use Rattle.std.proofs.Math.ListN.{drop_of_length-le}
 use Rattle.std.proofs.Math.Seq.{take-add}
-use Rattle.site_disk.specs.Bytes.{Apart, extent}
-use Rattle.site_disk.specs.Images.{Leaves, OnlyAfter, Seen, IsSynced}
+use Rattle.site_disk.specs.Bytes.{Apart}
+use Rattle.site_disk.specs.Images.{Leaves, OnlyAfter}
 use Rattle.site_disk.specs.ImagesLaws.{goes_on, weaker}
 use Rattle.site_disk.specs.CallsLaws.{from_known}
 use Rattle.site_headers.specs.HeaderLaws.{HasHeader-same}
@@ -22,14 +22,14 @@ use Rattle.backup_lines.specs.declared.lanes.Chain.{Chain}
 use Rattle.backup_lines.specs.declared.lanes.LaneState.{LaneState}
 use Rattle.backup_lines.specs.declared.lanes.LaneState.TheVariants.{At, Blank, Image, Replay}
 use Rattle.lane_ways.specs.Pictures.{mark_at, pages_at}
-use Rattle.lane_mark.specs.Layout.{FitsState, spelling}
-use Rattle.space_lane.specs.Chunks.{HoldsState, SamePages, chunk_tail, page_at}
+use Rattle.lane_mark.specs.Layout.{FitsChain, FitsRestore, FitsState, spelling}
+use Rattle.space_lane.specs.Chunks.{HoldsState, SamePages, chunk_tail}
 use Rattle.space_lane.specs.Stops.{MaySet, Sets}
 use Rattle.level_archive.specs.Image.{Entry}
 use Rattle.lane_restore.specs.declared.job.ImageJob.{ImageJob}
 use Rattle.lane_restore.specs.Images.{AreEntries, HasImage, entries_in, step_len}
-use Rattle.lane_restore.specs.Jobs.{amid, amid_of}
-use Rattle.lane_restore.specs.Merging.{ArePages, HoldsAmid, HoldsMerged, IsApartFrom, LieApart, WritesOnly, entries_of, next_entries, page_amid, with_entries, with_entry, with_images}
+use Rattle.lane_restore.specs.Jobs.{Amid, amid, amid_of}
+use Rattle.lane_restore.specs.Merging.{ArePages, HoldsMerged, IsApartFrom, LieApart, WritesOnly, entries_of, next_entries, page_amid, with_entries, with_entry, with_images}
 use Rattle.lane_restore.specs.Steps.{MayMerge, begun, behind_image, behind_step}
 use Rattle.lane_restore.proofs.ImageLemmas.{entries_behind, entries_in_front}
 use Rattle.lane_restore.proofs.PageLemmas.{with_one-other}
@@ -78,6 +78,12 @@ module _ (images : List (List Entry)) (level entries size : ℕ) (is_size : size
       sym (fold-append (with_entry number) (with_images number level images) (take entries own) (next_entries images level entries))
       ∙ ap (λ (l : List Entry). with_entries number l (with_images number level images)) front_and_next
 
+-- an image that isn't there has no entries
+no_image : (images : List (List Entry)) (level : ℕ) → length images ≤ level → get_or images level [] ≡ []
+no_image [] level le = refl
+no_image (es ∷ images) zero le = absurd (omega (arith, le))
+no_image (es ∷ images) (suc level) le = no_image images level (omega (arith, le))
+
 -- behind the last entry of an image it is merged
 pub merged_image : (images : List (List Entry)) (level n number : ℕ) → length (entries_of images level) ≤ n
     → page_amid images level n number ≡ page_amid images (level + 1) 0 number
@@ -93,11 +99,6 @@ merged_image images level n number all =
         ap (λ (l : List Entry). with_entries number l (with_images number level images)) (no_image images level le)
         ∙ ap (fold (λ (page : Page) (es : List Entry). with_entries number es page) empty_page) (take_all level images le ∙ sym (take_all (level + 1) images (omega (arith, le))))
 
-    no_image : (images : List (List Entry)) (level : ℕ) → length images ≤ level → get_or images level [] ≡ []
-    no_image [] level le = refl
-    no_image (es ∷ images) zero le = absurd (omega (arith, le))
-    no_image (es ∷ images) (suc level) le = no_image images level (omega (arith, le))
-
 -- the entries of a step stand on the volume
 pub next_stand : (images : List (List Entry)) (pages entries : ℕ) (image : ImageJob) (bytes : List ℕ) → HasImage pages image (entries_of images image.head.level) bytes
     → AreEntries image pages entries (next_entries images image.head.level entries) bytes
@@ -108,10 +109,16 @@ next_stand images pages entries image bytes has =
     (λ (past : length es ≤ entries). subst (λ (l : List Entry). AreEntries image pages entries (take 256 l) bytes) (sym (drop_of_length-le es past)) tt)
     (cases_lt entries (length es))
 
+-- one place is one image and so many of its entries
+pub same_amid : (a b c d : ℕ) → ◌≡◌ {A = Option Amid} (Some (amid a b)) (Some (amid c d)) → (a ≡ c) × (b ≡ d)
+same_amid a b c d is =
+    let same : amid a b ≡ amid c d = same_Some (amid a b) (amid c d) is in
+    (ap (λ (p : Amid). p.image) same, ap (λ (p : Amid). p.entries) same)
+
 -- chunks
 
 module _ (site space count : ℕ) where
-  same_pages : (pages : ℕ → Page) (loose : List Entry) (old new : List ℕ) → SamePages old new → ArePages space count pages loose old → ArePages space count pages loose new
+  pub same_pages : (pages : ℕ → Page) (loose : List Entry) (old new : List ℕ) → SamePages old new → ArePages space count pages loose old → ArePages space count pages loose new
   same_pages pages loose old new same are number lt apart = same (place_of pages_at number) 4096 (omega arith) ∙ are number lt apart
 
   -- the pages of a lane that isn't behind its images
@@ -119,13 +126,13 @@ module _ (site space count : ℕ) where
       → HoldsMerged site space count images state bytes → ArePages space count (page_amid images level entries) (next_entries images level entries) bytes
   pages_of_state images (At upto part) level entries bytes is merged = absurd merged
   pages_of_state images (Blank restore) level entries bytes is merged =
-      let first : 0 ≡ level = cc in
-      let none : 0 ≡ entries = cc in
+      let first : 0 ≡ level = (same_amid 0 0 level entries is).0 in
+      let none : 0 ≡ entries = (same_amid 0 0 level entries is).1 in
       subst (λ (n : ℕ). ArePages space count (page_amid images level n) (next_entries images level n) bytes) none
       (subst (λ (l : ℕ). ArePages space count (page_amid images l 0) (next_entries images l 0) bytes) first (λ number lt apart. merged.pages number lt tt))
   pages_of_state images (Image restore chain image n) level entries bytes is merged =
-      let first : image ≡ level = cc in
-      let none : n ≡ entries = cc in
+      let first : image ≡ level = (same_amid image n level entries is).0 in
+      let none : n ≡ entries = (same_amid image n level entries is).1 in
       subst (λ (k : ℕ). ArePages space count (page_amid images level k) (next_entries images level k) bytes) none
       (subst (λ (l : ℕ). ArePages space count (page_amid images l n) (next_entries images l n) bytes) first merged.pages)
   pages_of_state images (Replay restore chain upto part) level entries bytes is merged = absurd (let no : ⊥ = cc in no)
@@ -153,15 +160,15 @@ module _ (site space count : ℕ) where
       → HoldsMerged site space count images (begun state chain) bytes
   begun_shows images (At upto part) chain level entries bytes is holds pages = absurd (let no : ⊥ = cc in no)
   begun_shows images (Blank restore) chain level entries bytes is holds pages =
-      let first : level ≡ 0 = cc in
-      let none : entries ≡ 0 = cc in record {
+      let first : level ≡ 0 = sym (same_amid 0 0 level entries is).0 in
+      let none : entries ≡ 0 = sym (same_amid 0 0 level entries is).1 in record {
         holds = holds;
         pages = subst (λ (n : ℕ). ArePages space count (page_amid images 0 n) (next_entries images 0 n) bytes) none
             (subst (λ (l : ℕ). ArePages space count (page_amid images l entries) (next_entries images l entries) bytes) first pages);
       }
   begun_shows images (Image restore other image n) chain level entries bytes is holds pages =
-      let first : level ≡ image = cc in
-      let none : entries ≡ n = cc in record {
+      let first : level ≡ image = sym (same_amid image n level entries is).0 in
+      let none : entries ≡ n = sym (same_amid image n level entries is).1 in record {
         holds = holds;
         pages = subst (λ (k : ℕ). ArePages space count (page_amid images image k) (next_entries images image k) bytes) none
             (subst (λ (l : ℕ). ArePages space count (page_amid images l entries) (next_entries images l entries) bytes) first pages);
@@ -285,3 +292,88 @@ module _ (site space count : ℕ) where
         → HoldsState site space count (behind_step restore chain image entries) bytes → HoldsMerged site space count images (behind_step restore chain image entries) bytes
     behind_shows entries is_size are holds =
         step_shows entries is_size are (nat_le (entries_in image.size) (entries + step_len image.size entries)) refl holds
+
+-- the states that a step sets may stand in a mark
+
+pub fits_begun : (state : LaneState) (chain : Chain) → FitsChain chain → FitsState state → FitsState (begun state chain)
+fits_begun (At upto part) chain is fits = fits
+fits_begun (Blank restore) chain is fits = (fits, is, record { within = omega (arith, is.some); entries_fit = lit< tt })
+fits_begun (Image restore other image n) chain is fits = fits
+fits_begun (Replay restore other upto part) chain is fits = fits
+
+module _ (restore : ℕ) (chain : Chain) (image : ImageJob) (of : FitsRestore restore) (is : FitsChain chain) (within : image.head.level < chain.len) (position : image.head.at ≤ 2 ^ 48) where
+  fits_image : (b : Bool) → nat_lt (image.head.level + 1) chain.len ≡ b
+      → FitsState (if b then Image restore chain (image.head.level + 1) 0 else Replay restore chain image.head.at 0)
+  fits_image true test = (of, is, record { within = grind (arith, nat_tests, test); entries_fit = lit< tt })
+  fits_image false test = (of, is, record { upto_fits = position; part_fits = lit< tt })
+
+  pub fits_behind : (entries : ℕ) → entries + step_len image.size entries < 2 ^ 32 → FitsState (behind_step restore chain image entries)
+  fits_behind entries few = by (nat_le (entries_in image.size) (entries + step_len image.size entries))
+    where
+      by : (b : Bool) → FitsState (if b then behind_image restore chain image.head.level image.head.at else Image restore chain image.head.level (entries + step_len image.size entries))
+      by true = fits_image (nat_lt (image.head.level + 1) chain.len) refl
+      by false = (of, is, record { within = within; entries_fit = few })
+
+-- a step's images
+
+module _ (site space count : ℕ) (images : List (List Entry)) (state : LaneState) (restore : ℕ) (chain : Chain) (image : ImageJob) (entries : ℕ)
+    (is : amid_of state ≡ Some (amid image.head.level entries)) (e : ℕ) (old : ℕ → List ℕ → Type 0) (bytes : List ℕ) (merged : HoldsMerged site space count images state bytes)
+    (reads : (f : ℕ) → e < f → old f bytes) (only : OnlyAfter e bytes old) (fits : FitsState (begun state chain)) where
+  abbrev pub May : List ℕ → List ℕ → Type 0
+  May = MayMerge site space count images state (behind_step restore chain image entries) chain
+
+  abbrev pub next_now : List Entry
+  next_now = next_entries images image.head.level entries
+
+  abbrev pub pages_now : ℕ → Page
+  pages_now = page_amid images image.head.level entries
+
+  first_pages : ArePages space count pages_now next_now bytes
+  first_pages = pages_of_state site space count images state image.head.level entries bytes is merged
+
+  begin_shows : (d c : List ℕ) → d ≡ bytes → MaySet (begun state chain) bytes d c → May d c
+  begin_shows d c same may = ⊎_elim
+      (λ (stays : c ≡ d). inl (subst (λ (l : List ℕ). HoldsMerged site space count images state l) (sym (stays ∙ same)) merged))
+      (λ sets. ⊎_elim (λ before. inl before) (λ behind. inr (inl behind))
+      (sets_shows site space count images state (begun state chain) bytes c fits (holds_of_state site space count images state bytes merged)
+      (λ b holds pages. state_again site space count images state bytes b merged holds pages)
+      (λ b holds pages. begun_shows site space count images state chain image.head.level entries b is holds (same_pages site space count pages_now next_now bytes b pages first_pages)) sets))
+      may
+
+  pub begin_crash : (new : ℕ → List ℕ → Type 0) → Leaves e (MaySet (begun state chain) bytes) old new → Leaves e May old new
+  begin_crash new call = weaker May (MaySet (begun state chain) bytes) e old old new call (λ f d c lt image may. begin_shows d c (only f d lt image) may)
+
+  module _ (first : List ℕ) (same : SamePages bytes first) (holds : HoldsState site space count (begun state chain) first) where
+    pub pages_begun : ArePages space count pages_now next_now first
+    pages_begun = same_pages site space count pages_now next_now bytes first same first_pages
+
+    pub merge_crash : (mid new : ℕ → List ℕ → Type 0) → Leaves e May old mid → OnlyAfter e first mid → Leaves e (WritesOnly next_now) mid new → Leaves e May old new
+    merge_crash mid new before known call =
+        from_known May (WritesOnly next_now) e bytes first old mid new before known reads call
+        (λ c writes. inr (inl (writes_shows site space count images state chain image.head.level entries first c is holds pages_begun writes)))
+
+  module _ (is_size : image.size ≡ 4096 * (length (entries_of images image.head.level) + 1)) (within : image.head.level < chain.len)
+      (fits_next : FitsState (behind_step restore chain image entries)) (second : List ℕ) (holds : HoldsState site space count (begun state chain) second)
+      (pages : ArePages space count (λ number. with_entries number next_now (pages_now number)) [] second) where
+    merged_now : ArePages space count (page_amid images image.head.level (entries + step_len image.size entries)) [] second
+    merged_now = pages_behind_step site space count images image.head.level entries image.size second is_size pages
+
+    pub mark_shows : (new : List ℕ) → HoldsState site space count (behind_step restore chain image entries) new → SamePages second new
+        → HoldsMerged site space count images (behind_step restore chain image entries) new
+    mark_shows new there same =
+        behind_shows site space count images restore chain image within new entries is_size
+        (same_pages site space count (page_amid images image.head.level (entries + step_len image.size entries)) [] second new same merged_now) there
+
+    stays_shows : (new : List ℕ) → HoldsState site space count (begun state chain) new → SamePages second new → HoldsMerged site space count images (begun state chain) new
+    stays_shows new there same =
+        begun_shows site space count images state chain image.head.level entries new is there
+        (pages_before site space count images image.head.level entries image.size new is_size
+        (same_pages site space count (page_amid images image.head.level (entries + step_len image.size entries)) [] second new same merged_now))
+
+    pub mark_crash : (mid new : ℕ → List ℕ → Type 0) → Leaves e May old mid → Leaves e (MaySet (behind_step restore chain image entries) second) mid new → Leaves e May old new
+    mark_crash mid new before call =
+        goes_on May (MaySet (behind_step restore chain image entries) second) e old mid new before call
+        (λ f d c lt left may. ⊎_elim
+        (λ (same : c ≡ d). let was = before.later f d lt left in (was.0, was.1, subst (λ (l : List ℕ). May was.0 l) (sym same) was.2))
+        (λ sets. (bytes, reads f lt, inr (sets_shows site space count images (begun state chain) (behind_step restore chain image entries) second c fits_next holds stays_shows mark_shows sets)))
+        may)

@@ -1,5 +1,5 @@
 -- Where a step among the images leads, and what stops within it leave.
-use Rattle.std.specs.Prelude.{◌≡◌, ◌⊎◌, ℕ, ◌+◌, ◌==◌, ◌<◌, List, nat_lt, nat_le, if◌then◌else◌}
+use Rattle.std.specs.Prelude.{◌⊎◌, ℕ, ◌+◌, List, nat_lt, nat_le, if◌then◌else◌}
 use Rattle.backup_lines.specs.declared.lanes.Chain.{Chain}
 use Rattle.backup_lines.specs.declared.lanes.LaneState.{LaneState}
 use Rattle.backup_lines.specs.declared.lanes.LaneState.TheVariants.{At, Blank, Image, Replay}

@@ -12,8 +12,6 @@ mod preparing;
 mod reading;
 mod replaying;
 mod stepping;
-#[cfg(test)]
-mod tests;
 
 pub use backup_lines::{Chain, LaneState};
 pub use job::{ImageJob, LaneEnd, LaneJob};

@@ -1,17 +1,12 @@
-use Rattle.std.proofs.Common.{◌≡◌, ℕ, ◌+◌, ◌-◌, ◌*◌, ◌<◌, ◌≤◌, List, take, drop, length, arith, ap, sym, subst, ◌∙◌}
+use Rattle.std.proofs.Common.{◌≡◌, ℕ, ◌≤◌, length, arith, ap, sym, subst, ◌∙◌}
 use Rattle.std.proofs.lemmas.Result.{err_from_is_err_and}
 use Rattle.site_disk.specs.CallsLaws.{unchanged_again, uses_both}
 use Rattle.site_disk.specs.Ledger.{Uses}
-use Rattle.log_history.specs.Effects.{Page}
 use Rattle.before_images.specs.Saved.{place_of}
 use Rattle.lane_ways.specs.Pictures.{pages_at}
-use Rattle.level_archive.specs.Image.{Entry}
-use Rattle.space_lane.specs.declared.lane.Lane.{Lane}
 use Rattle.space_lane.specs.Lanes.{count_of, disk_of as chunk_of, space_of, with_disk as with_chunk}
-use Rattle.object_volume.specs.declared.volume.Volume.{Volume}
 use Rattle.object_volume.specs.Volumes.{disk_of, with_disk}
-use Rattle.lane_restore.specs.Merging.{ArePages, with_entries}
-use Rattle.lane_restore.proofs.LoopLemmas.{Merging, all_on, crash_next, handed_on, left_on, longer_on, long_is, next_takes, pages_on}
+use Rattle.lane_restore.proofs.LoopLemmas.{all_on, crash_next, handed_on, left_on, longer_on, long_is, next_takes, pages_on}
 use Rattle.lane_restore.proofs.PageLemmas.{pages_last}
 use Rattle.lane_restore.proofs.merging.merge_entries.Goals as goal
 

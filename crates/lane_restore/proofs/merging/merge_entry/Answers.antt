@@ -1,4 +1,4 @@
-use Rattle.std.proofs.Common.{◌≡◌, ℕ, ◌+◌, ◌*◌, ◌<◌, ◌≤◌, List, length, arith, ap, sym, subst, ◌∙◌}
+use Rattle.std.proofs.Common.{◌≡◌, ℕ, List, arith, ap, sym, subst, ◌∙◌}
 use Rattle.site_disk.specs.Bytes.{Torn}
 use Rattle.site_disk.specs.Images.{Leaves}
 use Rattle.before_images.specs.Saved.{place_of}

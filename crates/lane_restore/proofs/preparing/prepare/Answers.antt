@@ -1,6 +1,6 @@
 use Rattle.std.specs.Prelude.{Result, Ok, Err, OnOk}
 use Rattle.std.specs.Result.{is_err}
-use Rattle.std.proofs.Common.{◌≡◌, Bool, false, sym, ◌∙◌}
+use Rattle.std.proofs.Common.{◌≡◌, false, sym, ◌∙◌}
 use Rattle.site_disk.specs.Images.{OnlyAfter}
 use Rattle.site_disk.specs.declared.faults.Failed.{Failed}
 use Rattle.space_lane.specs.Lanes.{disk_of}

@@ -1,5 +1,5 @@
 use Rattle.std.specs.Prelude.{Result, Ok, Err, IfOk}
-use Rattle.std.proofs.Common.{◌≡◌, ℕ, zero, suc, ◌<◌, ◌≤◌, List, length, Bool, IsTrue, arith, ap, sym, subst, ◌∙◌}
+use Rattle.std.proofs.Common.{◌≡◌, ℕ, zero, suc, ◌<◌, List, length, Bool, IsTrue, arith, ap, sym, subst, ◌∙◌}
 use Rattle.site_disk.specs.declared.faults.Failed.{Failed}
 use Rattle.level_archive.specs.Image.{head_bytes}
 use Rattle.level_archive.specs.BlockLaws.{length-head_bytes}

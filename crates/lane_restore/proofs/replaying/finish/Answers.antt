@@ -1,4 +1,3 @@
-use Rattle.std.proofs.Common.{◌≡◌, Some}
 use Rattle.lane_restore.proofs.replaying.finish.Goals as goal
 use Rattle.lane_restore.proofs.replaying.finish.Goals.{in-Ok, in-Err}
 

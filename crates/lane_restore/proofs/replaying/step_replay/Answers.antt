@@ -1,5 +1,5 @@
 use Rattle.std.specs.Prelude.{map}
-use Rattle.std.proofs.Common.{◌≡◌, ℕ, ◌+◌, ◌*◌, ◌≤◌, List, arith, ap, sym, subst}
+use Rattle.std.proofs.Common.{◌≡◌, ℕ, List, arith, ap, sym, subst}
 use Rattle.log_history.specs.History.{History}
 use Rattle.txn_table.specs.Table.{change_of}
 use Rattle.txn_table.specs.declared.changes.Change.{Change}
