@@ -3,3 +3,4 @@ pub mod PageLemmas
 pub mod LoopLemmas
 pub mod StepLemmas
 pub mod NextLemmas
+pub mod LawLemmas

@@ -54,7 +54,7 @@ entry_found head pages e block is = record { e = e; fits = is.fits; number_is = 
 
 -- one entry more
 
-with_one-same : (number : ℕ) (page : Page) (e : Entry) → e.number ≡ number → with_entry number page e ≡ e.page
+pub with_one-same : (number : ℕ) (page : Page) (e : Entry) → e.number ≡ number → with_entry number page e ≡ e.page
 with_one-same number page e is = by (e.number == number) (grind (arith, nat_tests, is))
   where
     by : (b : Bool) → b ≡ true → (if b then e.page else page) ≡ e.page

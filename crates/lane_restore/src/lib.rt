@@ -6,6 +6,7 @@
 
 mod images;
 mod job;
+mod laws;
 mod marking;
 mod merging;
 mod preparing;
@@ -15,6 +16,10 @@ mod stepping;
 
 pub use backup_lines::{Chain, LaneState};
 pub use job::{ImageJob, LaneEnd, LaneJob};
+pub use laws::{
+    an_archive_gives_its_pages, an_emptied_chunk_has_no_image, an_image_is_taken,
+    merged_pages_stand,
+};
 pub use preparing::prepare;
 pub use replaying::{finish, step_replay};
 pub use stepping::step_image;
