@@ -1,0 +1,6 @@
+pub mod ImageLemmas
+pub mod PageLemmas
+pub mod LoopLemmas
+pub mod StepLemmas
+pub mod NextLemmas
+pub mod LawLemmas

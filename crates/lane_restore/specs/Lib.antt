@@ -1,0 +1,4 @@
+pub mod Jobs
+pub mod Images
+pub mod Merging
+pub mod Steps
