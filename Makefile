@@ -6,7 +6,7 @@ RT ?= rt
 # How many crates are proved side by side; each takes 1 to 4 GB of memory.
 JOBS ?= $(shell nproc)
 
-.PHONY: all demo test bench check install clean
+.PHONY: all xbsash demo test bench check install clean
 
 # The crates below the program are proved side by side, lowest first, and then the program. `rt run` builds and then runs:
 # without words the program ends with exit status 5, and makes the files of a site, empty.
@@ -16,6 +16,14 @@ all:
 	cd crates/onbar_main && rm -f cat spare boot log vol[01][0-9] chunk[01][0-9]
 	mkdir -p bin
 	cp crates/onbar_main/out/onbar_main bin/onbar
+
+# The program that runs scripts of XBSA calls.
+xbsash:
+	cd crates/xbsa_shell && $(RT) all check --jobs $(JOBS)
+	cd crates/xbsash_main && { $(RT) run </dev/null >/dev/null || test $$? -eq 7; }
+	cd crates/xbsash_main && rm -f cat spare boot log vol[01][0-9] chunk[01][0-9]
+	mkdir -p bin
+	cp crates/xbsash_main/out/xbsash_main bin/xbsash
 
 # A sample site, with a run that is killed.
 demo: all
