@@ -1,5 +1,5 @@
 //! Objects that are fetched.
-ghost use Rattle.std.specs.Prelude.{◌≡◌, ◌<◌, ◌≤◌, ℕ, length, drop, false, true, Some, Err, IfOk, IfErr, IsErrOf};
+ghost use Rattle.std.specs.Prelude.{◌≡◌, ◌<◌, ◌≤◌, ℕ, length, drop, false, true, Some, Err, IfOk, IfErr};
 ghost use Rattle.catalogue_slots.specs.Records.{Object as Object-of};
 ghost use Rattle.catalogue_journal.specs.Catalogues.{objects_of};
 ghost use Rattle.object_store.specs.Reading.{reads_on, part_on, ChangesOne, IsRead};
@@ -45,9 +45,6 @@ impl Session {
         ensures reads { is_usable copy (objects_of store.old.cat) (state_of self.old) ≡ true
             → (object : Object-of) → object_with copy (objects_of store.old.cat) ≡ Some object
             → ChangesOne (IsRead D.Disk era.now object.size (is_failure result)) object.volume store.old.volumes.items store.new.volumes.items }
-        ensures failed { (volume : ℕ) → IsErrOf result (BsaRc.AccessFailure (Access.Volume volume))
-            → (object : Object-of) → object_with copy (objects_of store.old.cat) ≡ Some object
-            → ChangesOne (IsRead D.Disk era.now object.size true) object.volume store.old.volumes.items store.new.volumes.items }
     {
         if !self.is_waiting() {
             return Err(BsaRc::InvalidCallSequence);
@@ -111,10 +108,6 @@ impl Session {
         ensures reads { (draft : Draft-of) (copy at : ℕ) (object : Object-of) → state_of self.old ≡ getting draft copy at
             → object_with copy (objects_of store.old.cat) ≡ Some object → at < object.size
             → ChangesOne (IsRead D.Disk era.now (length into.old) (is_failure result)) object.volume store.old.volumes.items store.new.volumes.items }
-        ensures failed { (volume : ℕ) → IsErrOf result (BsaRc.AccessFailure (Access.Volume volume))
-            → (draft : Draft-of) (copy at : ℕ) (object : Object-of) → state_of self.old ≡ getting draft copy at
-            → object_with copy (objects_of store.old.cat) ≡ Some object
-            → ChangesOne (IsRead D.Disk era.now (length into.old) true) object.volume store.old.volumes.items store.new.volumes.items }
     {
         let Some(reading) = self.reading() else {
             return Err(BsaRc::InvalidCallSequence);

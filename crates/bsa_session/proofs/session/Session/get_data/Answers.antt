@@ -64,12 +64,3 @@ returns-in-Err-clause-reads g c draft copy at object is found lt =
     let same : copy ≡ reading.copy = reading_copy s reading c.in-Some.ensures draft copy at is in
     one_of (λ (o : Object). IsRead g.D.Disk c.args.era.now (length c.args.into.now) true) c.args.store.now.volumes c.deref_mut.result.now c.read_object.new.volumes reading.copy objects
     (object_of c.in-Some-find_object.entry.now) object c.in-Some-find_object.ensures.found (subst (λ (n : ℕ). object_with n objects ≡ Some object) same found) c.deref_mut.ensures.value c.in-Err.ensures.one
-
-pub returns-in-Err-clause-failed : goal.returns-in-Err-clause-failed
-returns-in-Err-clause-failed g c volume fails draft copy at object is found =
-    let s = c.args.self.now.state in
-    let reading = c.in-Some.reading in
-    let objects = objects_of c.args.store.now.cat in
-    let same : copy ≡ reading.copy = reading_copy s reading c.in-Some.ensures draft copy at is in
-    one_of (λ (o : Object). IsRead g.D.Disk c.args.era.now (length c.args.into.now) true) c.args.store.now.volumes c.deref_mut.result.now c.read_object.new.volumes reading.copy objects
-    (object_of c.in-Some-find_object.entry.now) object c.in-Some-find_object.ensures.found (subst (λ (n : ℕ). object_with n objects ≡ Some object) same found) c.deref_mut.ensures.value c.in-Err.ensures.one

@@ -34,8 +34,3 @@ pub returns-in-Err-clause-reads : goal.returns-in-Err-clause-reads
 returns-in-Err-clause-reads g c usable object is =
     one_of (λ (o : Object). IsRead g.D.Disk c.args.era.now o.size true) c.args.store.now.volumes c.deref_mut.result.now c.check_object.new.volumes c.args.copy (objects_of c.args.store.now.cat)
     (object_of c.in-Some.entry.now) object c.in-Some.ensures.found is c.deref_mut.ensures.value c.in-Err.ensures.one
-
-pub returns-in-Err-clause-failed : goal.returns-in-Err-clause-failed
-returns-in-Err-clause-failed g c volume fails object is =
-    one_of (λ (o : Object). IsRead g.D.Disk c.args.era.now o.size true) c.args.store.now.volumes c.deref_mut.result.now c.check_object.new.volumes c.args.copy (objects_of c.args.store.now.cat)
-    (object_of c.in-Some.entry.now) object c.in-Some.ensures.found is c.deref_mut.ensures.value c.in-Err.ensures.one
