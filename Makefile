@@ -1,4 +1,4 @@
-# The program `onbar`, by the kit's command `rt`. `make` proves it and builds bin/onbar.
+# The programs, by the kit's command `rt`. `make` proves `onbar` and builds bin/onbar, `make xbsash` the other one.
 
 PREFIX ?= /usr/local
 DESTDIR ?=
@@ -8,22 +8,22 @@ JOBS ?= $(shell nproc)
 
 .PHONY: all xbsash demo test bench check install clean
 
-# The crates below the program are proved side by side, lowest first, and then the program. `rt run` builds and then runs:
-# without words the program ends with exit status 5, and makes the files of a site, empty.
-all:
-	cd crates/onbar_command && $(RT) all check --jobs $(JOBS)
-	cd crates/onbar_main && { $(RT) run </dev/null >/dev/null || test $$? -eq 5; }
-	cd crates/onbar_main && rm -f cat spare boot log vol[01][0-9] chunk[01][0-9]
+# A program: the crate of its call, its own crate, its exit status over empty standard input, its name. The crates below are proved
+# side by side, lowest first, and then the program. `rt run` builds and then runs: that makes the files of a site, empty.
+define program
+	cd crates/$(1) && $(RT) all check --jobs $(JOBS)
+	cd crates/$(2) && { $(RT) run </dev/null >/dev/null || test $$? -eq $(3); }
+	cd crates/$(2) && rm -f cat spare boot log vol[01][0-9] chunk[01][0-9]
 	mkdir -p bin
-	cp crates/onbar_main/out/onbar_main bin/onbar
+	cp crates/$(2)/out/$(2) bin/$(4)
+endef
+
+all:
+	$(call program,onbar_command,onbar_main,5,onbar)
 
 # The program that runs scripts of XBSA calls.
 xbsash:
-	cd crates/xbsa_shell && $(RT) all check --jobs $(JOBS)
-	cd crates/xbsash_main && { $(RT) run </dev/null >/dev/null || test $$? -eq 7; }
-	cd crates/xbsash_main && rm -f cat spare boot log vol[01][0-9] chunk[01][0-9]
-	mkdir -p bin
-	cp crates/xbsash_main/out/xbsash_main bin/xbsash
+	$(call program,xbsa_shell,xbsash_main,7,xbsash)
 
 # A sample site, with a run that is killed.
 demo: all
